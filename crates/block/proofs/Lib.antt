@@ -1,1 +1,4 @@
+pub mod Chained
+pub mod Placed
+pub mod Reading
 pub mod Sealed

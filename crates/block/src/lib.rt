@@ -5,6 +5,9 @@ ghost use mathlib.Core.Path.{_≡_};
 ghost use Prim.Native.Nat.{_%_, _+_, _/_, _≤_};
 ghost use Rattle.block.specs.Block.{Block, opening, sealed};
 ghost use Rattle.std.specs.Orderings.{Decides};
+
+pub mod chain;
+
 use check_word::check_word;
 
 // Writes the block of `bytes` at the start of `out`, and tells how long it is.
