@@ -8,7 +8,7 @@ use Rattle.block.specs.Block.{Block, sealed}
 use Rattle.block.specs.Chain.{AllRight, blockAt, chain, chained, parts}
 use Rattle.block.proofs.Placed.{Step, done, first-part, same-cut}
 use Rattle.block.proofs.Sealed.{front, length-sealed}
-use Rattle.std.proofs.shelf.Lists.{drop-all, drop-at, drop-drop, nil-from-length, take-all, take-at}
+use Rattle.std.proofs.shelf.Lists.{drop-drop, length-take-le, nil-from-length, take-take}
 
 pub length-chain : (n : ℕ) (bytes : List ℕ) → length (chain n bytes) ≡ min (14 * n) (length bytes) + 2 * n
 unfolding chain
@@ -125,6 +125,17 @@ cut bytes some =
     let one = length-sealed (take 14 bytes) in
     let taken = length-take 14 bytes in
     first-part 16 (chained bytes) (sealed (take 14 bytes)) (chained (drop 14 bytes)) (chained-more bytes (omega arith)) (omega arith)
+
+-- the first 14 bytes stand first
+pub first-bytes : (bytes : List ℕ) → 14 ≤ length bytes → take 14 (chained bytes) ≡ take 14 bytes
+first-bytes bytes h =
+    let one = cut bytes (omega (arith, length-chained bytes)) in
+    sym (take-take 14 16 (chained bytes) (omega arith)) ∙ ap (take 14) (one .0)
+    ∙ front (take 14 bytes) 14 (length-take-le 14 bytes h)
+
+-- behind the first block stand the blocks of the other bytes
+pub other-blocks : (bytes : List ℕ) → 14 ≤ length bytes → drop 16 (chained bytes) ≡ chained (drop 14 bytes)
+other-blocks bytes h = cut bytes (omega (arith, length-chained bytes)) .1
 
 -- the blocks of bytes have right check words
 pub all-right : (bytes : List ℕ) → AllRight (chained bytes)
