@@ -7,7 +7,7 @@ ghost use mathlib.Core.Path.{_≡_};
 ghost use Prim.Native.Nat.{_≤_};
 ghost use Rattle.refusal.specs.Told.{answer, granted, refused};
 ghost use Rattle.refusal.specs.declared.Company.the-variants.{Alone};
-ghost use Rattle.request_frame.specs.Requests.{Least, ReadsAs, Requests, Valid, headed, request, window};
+ghost use Rattle.request_frame.specs.Requests.{FirstBegun, Least, ReadsAs, Requests, Valid, begun, headed, request, window};
 ghost use Rattle.std.specs.Options.{Cases};
 ghost use Rattle.std.specs.Orderings.{Decides};
 use block::is_block;
@@ -100,4 +100,23 @@ pub fn read_request(line: &[u8], at: usize) -> Option<Request<'_>>
         command: frame[6],
         parameters: &frame[7..16],
     })
+}
+
+// Whether `rest`, the end of a line, is a beginning that more bytes may finish.
+fn is_begun(rest: &[u8]) -> bool
+    ensures { λ r. ⌜ r ≡ begun (now (rest .entry)) ⌝ }
+{
+    rest.len() > 0 && rest.len() < REQUEST_BYTES && rest[0] == 0x05 && (rest.len() == 1 || rest[1] == 0x64)
+}
+
+// The least place from which the line's end is a beginning that more bytes may finish.
+pub fn unfinished(line: &[u8]) -> Option<usize>
+    ensures { λ r. ⌜ FirstBegun (now (line .entry)) r ⌝ }
+{
+    for at in line.len().saturating_sub(17)..line.len() {
+        if is_begun(&line[at..]) {
+            return Some(at);
+        }
+    }
+    None
 }
