@@ -45,7 +45,7 @@ module _ {text old items : List ℕ} {high : Option ℕ} {i : ℕ} (so-far : Sof
   marked {m} h e =
       so-far .rest
       ∙ ap (after (so-far .done))
-        (at-drop-more (says high (i + 1)) text i 0 h ∙ says-next high (i + 1) (getD text i 0) (drop (i + 1) text) ∙ ap (onward text i high) (sym e))
+      (at-drop-more (says high (i + 1)) text i 0 h ∙ says-next high (i + 1) (getD text i 0) (drop (i + 1) text) ∙ ap (onward text i high) (sym e))
 
   pub bad : {m : Mark} {fault : Fault} → i < length text → m ≡ markOf (getD text i 0) → onward text i high m ≡ Err fault →
       (says None 1 text ≡ Err fault) × ((bytes : List ℕ) × (items ≡ old ++ bytes))
@@ -53,22 +53,22 @@ module _ {text old items : List ℕ} {high : Option ℕ} {i : ℕ} (so-far : Sof
 
   pub commented : {m : Mark} → i < length text → m ≡ markOf (getD text i 0) → onward text i high m ≡ Ok [] →
       (bytes : List ℕ) × (says None 1 text ≡ Ok bytes) × (items ≡ old ++ bytes)
-  commented h e some =
-      ( so-far .done ++ []
-      , marked h e ∙ ap (after (so-far .done)) some
-      , so-far .put ∙ ap (λ (l : List ℕ). old ++ l) (sym (append-nil (so-far .done)))
-      )
+  commented h e some = (
+    so-far .done ++ [],
+    marked h e ∙ ap (after (so-far .done)) some,
+    so-far .put ∙ ap (λ (l : List ℕ). old ++ l) (sym (append-nil (so-far .done))),
+  )
 
   pub one-more : {m : Mark} {high′ : Option ℕ} {items′ : List ℕ} (more : List ℕ) → i < length text → m ≡ markOf (getD text i 0) →
       onward text i high m ≡ after more (says high′ (i + 1 + 1) (drop (i + 1) text)) → items′ ≡ items ++ more → Cases high′ (Unit {0}) (λ d. d < 16) →
       Sofar text old high′ (i + 1) items′
   one-more {high′ = high′} more h e is put small =
-      record
-        { done = so-far .done ++ more
-        ; put = put ∙ ap (λ (l : List ℕ). l ++ more) (so-far .put) ∙ append-assoc old (so-far .done) more
-        ; rest = marked h e ∙ ap (after (so-far .done)) is ∙ after-after (so-far .done) more (says high′ (i + 1 + 1) (drop (i + 1) text))
-        ; small = small
-        }
+      record {
+        done = so-far .done ++ more;
+        put = put ∙ ap (λ (l : List ℕ). l ++ more) (so-far .put) ∙ append-assoc old (so-far .done) more;
+        rest = marked h e ∙ ap (after (so-far .done)) is ∙ after-after (so-far .done) more (says high′ (i + 1 + 1) (drop (i + 1) text));
+        small = small;
+      }
 
   pub at-end : length text ≤ i → says None 1 text ≡ after (so-far .done) (says high (i + 1) [])
   at-end h = so-far .rest ∙ ap (after (so-far .done)) (at-drop-all (says high (i + 1)) text i h)

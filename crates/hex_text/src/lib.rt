@@ -37,8 +37,14 @@ pub impl<T: Drop> From<Refused<T>> for Fault as FaultFromRefused {
 pub impl fmt::Display for Fault as FaultDisplay {
     fn fmt<W: fmt::Write>(&self, f: &mut fmt::Formatter<W>) -> fmt::Result {
         match *self {
-            Fault::NoDigit { column } => write!(f, "column {column}: expected a hexadecimal digit, a blank or `#`"),
-            Fault::HalfPair { column } => write!(f, "column {column}: expected the second digit of a pair"),
+            Fault::NoDigit { column } => write!(
+                f,
+                "column {column}: expected a hexadecimal digit, a blank or `#`"
+            ),
+            Fault::HalfPair { column } => write!(
+                f,
+                "column {column}: expected the second digit of a pair"
+            ),
             Fault::Memory => write!(f, "no memory for the bytes"),
         }
     }
@@ -81,6 +87,8 @@ pub fn read_line(text: &[u8], out: &mut Vec<u8>) -> Result<(), Fault>
     }
     match high {
         None => Ok(()),
-        Some(_) => Err(Fault::HalfPair { column: text.len() + 1 }),
+        Some(_) => Err(Fault::HalfPair {
+            column: text.len() + 1,
+        }),
     }
 }

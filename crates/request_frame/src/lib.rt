@@ -4,7 +4,7 @@ ghost use lib.ListN.{length, take, drop};
 ghost use mathlib.Core.Bool.{cond};
 ghost use mathlib.Core.List.{_∷_, _++_};
 ghost use mathlib.Core.Path.{_≡_};
-ghost use Prim.Native.Nat.{_≤_};
+ghost use Prim.Native.Nat.{_+_, _≤_};
 ghost use Rattle.refusal.specs.Told.{answer, granted, refused};
 ghost use Rattle.refusal.specs.declared.Company.the-variants.{Alone};
 ghost use Rattle.request_frame.specs.Requests.{FirstBegun, Least, ReadsAs, Requests, Valid, begun, headed, request, window};
@@ -72,7 +72,8 @@ fn is_request(frame: &[u8]) -> bool
 
 // The least place in `line` at which a valid request begins, with its command.
 pub fn search(line: &[u8]) -> Option<(usize, u8)>
-    ensures { λ r. ⌜ Least (now (line .entry)) r ⌝ }
+    ensures least { λ r. ⌜ Least (now (line .entry)) r ⌝ }
+    ensures within { λ r. ⌜ Cases r (Unit {0}) (λ found. found .0 + 18 ≤ length (now (line .entry))) ⌝ }
 {
     for at in 0..line.len().saturating_sub(17) {
         let frame = &line[at..at + 18];
@@ -106,7 +107,10 @@ pub fn read_request(line: &[u8], at: usize) -> Option<Request<'_>>
 fn is_begun(rest: &[u8]) -> bool
     ensures { λ r. ⌜ r ≡ begun (now (rest .entry)) ⌝ }
 {
-    rest.len() > 0 && rest.len() < REQUEST_BYTES && rest[0] == 0x05 && (rest.len() == 1 || rest[1] == 0x64)
+    rest.len() > 0
+        && rest.len() < REQUEST_BYTES
+        && rest[0] == 0x05
+        && (rest.len() == 1 || rest[1] == 0x64)
 }
 
 // The least place from which the line's end is a beginning that more bytes may finish.

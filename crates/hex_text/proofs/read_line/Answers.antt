@@ -50,22 +50,22 @@ returns-in-Some-Other c =
 pub loop-i-again : need.loop-i-again
 loop-i-again c =
     let items = vec-items (c .loop-i .out) in
-    elim (c .match-high .came)
-    [ in-None-Blank w ↦
-        at-high
-        (one-more (at-high (c .loop-i .inv) (w .in-None-Blank .is-0)) [] (c .loop-i-test .taken) (w .in-None-Blank .ensures tt .value)
-        (after-none _) (ap vec-items (w .out-is) ∙ sym (append-nil items)) tt)
-        (sym (w .high-is ∙ w .in-None-Blank .is-0))
-    | in-None-Digit w ↦
-        at-high
-        (one-more (at-high (c .loop-i .inv) (w .in-None-Digit .is-0)) [] (c .loop-i-test .taken) (w .in-None-Digit .ensures tt .value)
-        (after-none _) (ap vec-items (w .out-is) ∙ sym (append-nil items)) (w .in-None-Digit .ensures tt .bound))
-        (sym (w .high-is))
-    | in-Some-Digit·in-Continue-push w ↦
-        at-high
-        (one-more (at-high (c .loop-i .inv) (w .in-Some-Digit .is-0)) ((16 * w .in-Some-Digit .h + w .in-Some-Digit .d) ∷ []) (c .loop-i-test .taken)
-        (w .in-Some-Digit .ensures tt .value) refl (ap vec-items (w .out-is) ∙ w .in-Continue-push .ensures tt .items) tt)
-        (sym (w .high-is))
+    elim (c .match-high .came) [
+      | in-None-Blank w ↦
+          at-high
+          (one-more (at-high (c .loop-i .inv) (w .in-None-Blank .is-0)) [] (c .loop-i-test .taken) (w .in-None-Blank .ensures tt .value)
+          (after-none _) (ap vec-items (w .out-is) ∙ sym (append-nil items)) tt)
+          (sym (w .high-is ∙ w .in-None-Blank .is-0))
+      | in-None-Digit w ↦
+          at-high
+          (one-more (at-high (c .loop-i .inv) (w .in-None-Digit .is-0)) [] (c .loop-i-test .taken) (w .in-None-Digit .ensures tt .value)
+          (after-none _) (ap vec-items (w .out-is) ∙ sym (append-nil items)) (w .in-None-Digit .ensures tt .bound))
+          (sym (w .high-is))
+      | in-Some-Digit·in-Continue-push w ↦
+          at-high
+          (one-more (at-high (c .loop-i .inv) (w .in-Some-Digit .is-0)) ((16 * w .in-Some-Digit .h + w .in-Some-Digit .d) ∷ []) (c .loop-i-test .taken)
+          (w .in-Some-Digit .ensures tt .value) refl (ap vec-items (w .out-is) ∙ w .in-Continue-push .ensures tt .items) tt)
+          (sym (w .high-is))
     ]
 
 pub returns-in-None : need.returns-in-None

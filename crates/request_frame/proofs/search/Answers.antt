@@ -10,7 +10,10 @@ use Rattle.std.proofs.shelf.Tests.{cases-lt}
 pub returns-then-is-request : need.returns-then-is-request
 returns-then-is-request c =
     let at = c .loop-at .at in
-    ((_, _, here (c .args .line .now) at (cut (c .args .line .now) at) (c .if-is-request .taken) (c .is-request .ensures)), c .loop-at .inv)
+    record {
+      least = ((_, _, here (c .args .line .now) at (cut (c .args .line .now) at) (c .if-is-request .taken) (c .is-request .ensures)), c .loop-at .inv);
+      within = omega arith;
+    }
 
 pub loop-at-again : need.loop-at-again
 loop-at-again c =
@@ -20,4 +23,7 @@ loop-at-again c =
 
 pub returns : need.returns
 returns c =
-    λ k v. ⊎-elim (λ h. c .loop-at .inv k h v) (λ h. past-end (c .args .line .now) k (omega arith) v) (cases-lt k (c .loop-at .at))
+    record {
+      least = λ k v. ⊎-elim (λ h. c .loop-at .inv k h v) (λ h. past-end (c .args .line .now) k (omega arith) v) (cases-lt k (c .loop-at .at));
+      within = tt;
+    }

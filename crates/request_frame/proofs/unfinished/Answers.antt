@@ -33,5 +33,5 @@ loop-at-again c =
 pub returns : need.returns
 returns c =
     λ k.
-      ⊎-elim (c .loop-at .inv k) (λ h. empty (drop k (c .args .line .now)) (omega (arith, length-drop k (c .args .line .now))))
-      (cases-lt k (c .loop-at .at))
+    ⊎-elim (c .loop-at .inv k) (λ h. empty (drop k (c .args .line .now)) (omega (arith, length-drop k (c .args .line .now))))
+    (cases-lt k (c .loop-at .at))
