@@ -1,0 +1,4 @@
+pub mod Counts
+pub mod Inverse
+pub mod Samples
+pub mod Years
