@@ -1,9 +1,11 @@
 // Dates read, tested, and turned into seconds and back; seasons read and told.
 ghost use lib.ListN.{length};
-ghost use mathlib.Core.Bool.{true};
+ghost use lib.Dec.{leb};
+ghost use mathlib.Core.Bool.{cond, true};
 ghost use mathlib.Core.Path.{_≡_};
 ghost use Prim.Native.Nat.{_≤_};
 ghost use Rattle.calendar.specs.Dates.{dateOf, isDay, isLawful, isTime, moment};
+ghost use Rattle.std.specs.declared.option.Option.the-variants.{Some, None};
 ghost use Rattle.calendar.specs.Times.{dateIn, seasonBit, seasonOf};
 use super::DateTime;
 use super::Season;
@@ -83,6 +85,16 @@ impl DateTime {
         let days = days_before_year(self.year) + before_month + (u32::from(self.day) - 1);
         let minutes = 60 * u32::from(self.hour) + u32::from(self.minute);
         86_400 * days + 60 * minutes + u32::from(self.second)
+    }
+
+    // The date at so many seconds from the start of 2000, unless they are past the end of 2099.
+    pub fn after(seconds: u32) -> Option<DateTime>
+        ensures { λ r. ⌜ r ≡ cond (leb seconds 3155759999) (Some (dateOf seconds)) None ⌝ }
+    {
+        if seconds > 3_155_759_999 {
+            return None;
+        }
+        Some(DateTime::at(seconds))
     }
 
     // The date at so many seconds from the start of 2000.
