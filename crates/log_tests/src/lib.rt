@@ -2,6 +2,7 @@
 
 #[cfg(test)]
 mod tests {
+    use calendar::Clock;
     use log::Position;
     use log::reading::copy_out;
     use log::reading::record_at;
@@ -163,15 +164,15 @@ mod tests {
         let mut none = Position::fresh(0);
         let mut three = Position::fresh(3);
         check_eq(
-            note_event(&mut three, &mut memory, &bad, 0, 0),
+            note_event(&mut three, &mut memory, &bad, &Clock::start()),
             Err(Refusal::LittleMemory),
         )?;
         check_eq(
-            note_event(&mut none, &mut memory, &bad, 0, 0),
+            note_event(&mut none, &mut memory, &bad, &Clock::start()),
             Err(Refusal::EventReason),
         )?;
         check_eq(
-            note_event(&mut none, &mut memory, &good, 0, 0),
+            note_event(&mut none, &mut memory, &good, &Clock::start()),
             Err(Refusal::NoVolume),
         )?;
         check_eq(
@@ -191,7 +192,9 @@ mod tests {
     }
 
     fn note_events(position: &mut Position, memory: &mut [Event]) -> Result<(), Fail> {
+        let mut clock = Clock::start();
         for n in 1..41u16 {
+            clock.advance(256)?;
             let report = Report {
                 reason: 0x80,
                 tu: 0,
@@ -199,7 +202,7 @@ mod tests {
                 value: n,
                 period: 0,
             };
-            note_event(position, memory, &report, n as u32, 0)?;
+            note_event(position, memory, &report, &clock)?;
         }
         Ok(())
     }

@@ -12,7 +12,10 @@ fn tell(rt: &LibcRuntime, seconds: u32) -> io::Result<()> {
     let hour = date.hour;
     let minute = date.minute;
     let second = date.second;
-    println!(rt, "{seconds:>10}  {year}-{month:02}-{day:02} {hour:02}:{minute:02}:{second:02}")
+    println!(
+        rt,
+        "{seconds:>10}  {year}-{month:02}-{day:02} {hour:02}:{minute:02}:{second:02}"
+    )
 }
 
 // Prints the date for each line of standard input, and gives the number of the first line that is no number.

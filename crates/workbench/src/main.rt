@@ -10,9 +10,15 @@ fn main(rt: LibcRuntime) -> Result<(), AnyError> {
 }
 
 fn run(rt: &LibcRuntime) -> Result<(), AnyError> {
-    println!(rt, "workbench: dates for seconds since 2000 (one number a line on standard input), a log, both stores")?;
+    println!(
+        rt,
+        "workbench: dates for seconds since 2000 (one number a line on standard input), a log, both stores"
+    )?;
     if let Some(number) = dates::tell_all(rt)? {
-        let message = format!(rt.alloc(), "line {number}: expected a number of seconds, 0 to 4294967295")?;
+        let message = format!(
+            rt.alloc(),
+            "line {number}: expected a number of seconds, 0 to 4294967295"
+        )?;
         return Err(message.into());
     }
     rounds::tell_all(rt)?;

@@ -34,7 +34,10 @@ pub fn tell_all(rt: &LibcRuntime) -> io::Result<()> {
     fill(&mut flat);
     fill(&mut appending);
     let same = alike(&flat, &appending);
-    println!(rt, "400 writes to a flat and to an appending store: {same} of 256 cells alike")?;
+    println!(
+        rt,
+        "400 writes to a flat and to an appending store: {same} of 256 cells alike"
+    )?;
     print!(rt, "cells 0 to 7, 199, 200:")?;
     for cell in [0, 1, 2, 3, 4, 5, 6, 7, 199, 200] {
         let byte = appending.read(cell);
