@@ -1,4 +1,3 @@
 pub mod Counts
 pub mod Inverse
-pub mod Samples
 pub mod Years
