@@ -88,6 +88,6 @@ meant (ReadSetting number which) = readSetting number which
 meant (ClearLog log password) = clearLog log (now password)
 meant (LogState log) = logState log
 meant (LogRecords log index count) = logRecords log index count
-meant (WriteConfiguration parts events inputs debounce) = writeConfiguration parts (now events) inputs debounce
+meant (WriteConfiguration bits events inputs debounce) = writeConfiguration bits (now events) inputs debounce
 meant ReadConfiguration = readConfiguration
 meant (WriteOutputMask number mask) = writeOutputMask number (now mask)

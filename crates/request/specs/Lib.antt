@@ -1,1 +1,4 @@
 pub mod Asked
+pub mod Rows
+pub mod Tried
+pub mod Writes

@@ -6,7 +6,11 @@ ghost use mathlib.Core.Path.{_≡_};
 ghost use Prim.Native.Nat.{_+_, _*_};
 ghost use Rattle.request.specs.Asked.{asked, meant};
 ghost use Rattle.std.specs.declared.option.Option.the-variants.{None};
-ghost use Rattle.std.specs.Options.{mapped};
+ghost use Rattle.request.specs.Rows.{Sized};
+ghost use Rattle.std.specs.Options.{Cases, mapped};
+
+pub mod rows;
+pub mod writes;
 
 // What a request asks. Parts of several bytes are parts of the line.
 #[derive(Clone, Copy)]
@@ -85,7 +89,7 @@ pub enum Request<'a> {
     },
     // 0x2B: writes parts of the device configuration.
     WriteConfiguration {
-        parts: u8,
+        bits: u8,
         events: &'a [u8],
         inputs: u8,
         debounce: u8,
@@ -109,7 +113,8 @@ fn word(low: u8, high: u8) -> u16
 impl<'a> Request<'a> {
     // What a command with its nine parameters asks, if there is such a command.
     pub fn of(command: u8, p: &'a [u8]) -> Option<Request<'a>>
-        ensures { λ r. ⌜ mapped meant r ≡ cond (eqb (length (now (p .entry))) 9) (asked command (now (p .entry))) None ⌝ }
+        ensures asks { λ r. ⌜ mapped meant r ≡ cond (eqb (length (now (p .entry))) 9) (asked command (now (p .entry))) None ⌝ }
+        ensures sized { λ r. ⌜ Cases r (Unit {0}) (λ q. Sized (meant q)) ⌝ }
     {
         if p.len() != 9 {
             return None;
@@ -159,7 +164,7 @@ impl<'a> Request<'a> {
                 count: word(p[3], p[4]),
             }),
             0x2b => Some(Request::WriteConfiguration {
-                parts: p[0],
+                bits: p[0],
                 events: &p[1..3],
                 inputs: p[6],
                 debounce: p[7],

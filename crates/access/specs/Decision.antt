@@ -1,0 +1,97 @@
+-- Access: what stands, which requests it lets through, and how it moves.
+use Prim.Native.Nat.{ℕ}
+use lib.Dec.{eqb, leb}
+use mathlib.Core.Bool.{Bool, true, false, cond, not, _&&_}
+use mathlib.Core.List.{List}
+use Rattle.access.specs.declared.Access.{Access}
+use Rattle.access.specs.declared.Permitted.{Permitted}
+use Rattle.access.specs.declared.Permitted.the-variants.{Nobody, Setpoints, Counters}
+use Rattle.refusal.specs.Told.{Answer, granted, refused}
+use Rattle.refusal.specs.declared.Company.the-variants.{Alone}
+use Rattle.request.specs.Asked.{Asked, prepare, changeAddress, readAddress, changePassword, permit, readings, writeSetpoint, setSpeed, setClock, readClock, writeMarks, readMarks, synchronise, readSetting, clearLog, logState, logRecords, writeConfiguration, readConfiguration, writeOutputMask}
+use Rattle.request.specs.Rows.{checked, needs, tries}
+use Rattle.request.specs.declared.rows.Needs.{Needs}
+use Rattle.request.specs.declared.rows.Needs.the-variants.{Nothing, Preparation, PreparationAndPermission}
+use Rattle.std.specs.Options.{isSome}
+
+-- Neither prepared nor permitted.
+abbrev pub closed : Access
+closed = record { prepared = false; permitted = Nobody }
+
+-- What stands is not what is needed: preparation, and permission of kind 0.
+abbrev pub unprepared : Access → Needs → Bool
+unprepared access Nothing = false
+unprepared access Preparation = not (access .prepared)
+unprepared access PreparationAndPermission = not (access .prepared)
+
+abbrev pub permitsSetpoints : Permitted → Bool
+permitsSetpoints Nobody = false
+permitsSetpoints Setpoints = true
+permitsSetpoints Counters = false
+
+abbrev pub unpermitted : Access → Needs → Bool
+unpermitted access Nothing = false
+unpermitted access Preparation = false
+unpermitted access PreparationAndPermission = not (permitsSetpoints (access .permitted))
+
+-- The index that a request for records begins at is not below the number of records held.
+abbrev pub indexPast : ℕ → Asked → Bool
+indexPast held (prepare key) = false
+indexPast held (changeAddress own new) = false
+indexPast held readAddress = false
+indexPast held (changePassword kind old new) = false
+indexPast held (permit password kind) = false
+indexPast held (readings mask) = false
+indexPast held (writeSetpoint number setpoint) = false
+indexPast held (setSpeed code) = false
+indexPast held (setClock date season) = false
+indexPast held (readClock form) = false
+indexPast held (writeMarks marks) = false
+indexPast held readMarks = false
+indexPast held synchronise = false
+indexPast held (readSetting number which) = false
+indexPast held (clearLog log password) = false
+indexPast held (logState log) = false
+indexPast held (logRecords log index count) = leb held index
+indexPast held (writeConfiguration bits events inputs debounce) = false
+indexPast held readConfiguration = false
+indexPast held (writeOutputMask number mask) = false
+
+-- What is answered to a request for this converter or broadcast: the least number that applies. `right`
+-- tells whether the password tried is the stored one; it counts only where the row names a password.
+abbrev pub verdict : Access → List ℕ → ℕ → Bool → Asked → Answer Unit
+verdict access address held right asked =
+    cond (unprepared access (needs asked)) (refused 6 Alone)
+    (cond (unpermitted access (needs asked)) (refused 7 Alone)
+    (cond (not (checked address asked)) (refused 8 Alone)
+    (cond (indexPast held asked) (refused 9 Alone)
+    (cond (isSome (tries asked) && not right) (refused 10 Alone) (granted tt)))))
+
+-- How a granted request moves access: 0x01 prepares, 0x06 permits its kind in the place of an earlier one,
+-- neither ends the other, and every other request ends both.
+abbrev pub moved : Access → Asked → Access
+moved access (prepare key) = record { prepared = true; permitted = access .permitted }
+moved access (changeAddress own new) = closed
+moved access readAddress = closed
+moved access (changePassword kind old new) = closed
+moved access (permit password kind) = record { prepared = access .prepared; permitted = cond (eqb kind 0) Setpoints Counters }
+moved access (readings mask) = closed
+moved access (writeSetpoint number setpoint) = closed
+moved access (setSpeed code) = closed
+moved access (setClock date season) = closed
+moved access (readClock form) = closed
+moved access (writeMarks marks) = closed
+moved access readMarks = closed
+moved access synchronise = closed
+moved access (readSetting number which) = closed
+moved access (clearLog log password) = closed
+moved access (logState log) = closed
+moved access (logRecords log index count) = closed
+moved access (writeConfiguration bits events inputs debounce) = closed
+moved access readConfiguration = closed
+moved access (writeOutputMask number mask) = closed
+
+-- A refused request ends both.
+abbrev pub afterwards : {T : Type 0} → Answer T → Access → Asked → Access
+afterwards (granted x) access asked = moved access asked
+afterwards (refused number company) access asked = closed
