@@ -1,8 +1,9 @@
 -- Access: what stands, which requests it lets through, and how it moves.
-use Prim.Native.Nat.{ℕ}
+use Prim.Native.Nat.{ℕ, _+_}
 use lib.Dec.{eqb, leb}
 use mathlib.Core.Bool.{Bool, true, false, cond, not, _&&_}
-use mathlib.Core.List.{List}
+use lib.ListN.{getD}
+use mathlib.Core.List.{List, [], _∷_}
 use Rattle.access.specs.declared.Access.{Access}
 use Rattle.access.specs.declared.Permitted.{Permitted}
 use Rattle.access.specs.declared.Permitted.the-variants.{Nobody, Setpoints, Counters}
@@ -12,7 +13,10 @@ use Rattle.request.specs.Asked.{Asked, prepare, changeAddress, readAddress, cha
 use Rattle.request.specs.Rows.{checked, needs, tries}
 use Rattle.request.specs.declared.rows.Needs.{Needs}
 use Rattle.request.specs.declared.rows.Needs.the-variants.{Nothing, Preparation, PreparationAndPermission}
-use Rattle.std.specs.Options.{isSome}
+use Rattle.request.specs.Writes.{passwordCell}
+use Rattle.request.specs.declared.rows.PasswordKind.{PasswordKind}
+use Rattle.std.specs.declared.option.Option.{Option}
+use Rattle.std.specs.declared.option.Option.the-variants.{Some, None}
 
 -- Neither prepared nor permitted.
 abbrev pub closed : Access
@@ -57,15 +61,35 @@ indexPast held (writeConfiguration bits events inputs debounce) = false
 indexPast held readConfiguration = false
 indexPast held (writeOutputMask number mask) = false
 
--- What is answered to a request for this converter or broadcast: the least number that applies. `right`
--- tells whether the password tried is the stored one; it counts only where the row names a password.
+-- Four neighbouring cells hold four bytes.
+abbrev pub holdsFour : (ℕ → ℕ) → ℕ → List ℕ → Bool
+holdsFour cells first bytes =
+    eqb (cells (first + 0)) (getD bytes 0 0)
+    && (eqb (cells (first + 1)) (getD bytes 1 0)
+    && (eqb (cells (first + 2)) (getD bytes 2 0)
+    && eqb (cells (first + 3)) (getD bytes 3 0)))
+
+-- The password tried is the stored one of its kind; right, too, where none is tried.
+abbrev pub rightFor : (ℕ → ℕ) → Option (PasswordKind × List ℕ) → Bool
+rightFor cells None = true
+rightFor cells (Some tried) = holdsFour cells (passwordCell (tried .0)) (tried .1)
+
+abbrev pub right : (ℕ → ℕ) → Asked → Bool
+right cells asked = rightFor cells (tries asked)
+
+-- The converter's own address.
+abbrev pub own : (ℕ → ℕ) → List ℕ
+own cells = cells 0 ∷ cells 1 ∷ []
+
+-- What is answered to a request for this converter or broadcast, by what stands, the converter's address,
+-- the number of records held and whether the password tried is right: the least number that applies.
 abbrev pub verdict : Access → List ℕ → ℕ → Bool → Asked → Answer Unit
-verdict access address held right asked =
+verdict access address held isRight asked =
     cond (unprepared access (needs asked)) (refused 6 Alone)
     (cond (unpermitted access (needs asked)) (refused 7 Alone)
     (cond (not (checked address asked)) (refused 8 Alone)
     (cond (indexPast held asked) (refused 9 Alone)
-    (cond (isSome (tries asked) && not right) (refused 10 Alone) (granted tt)))))
+    (cond isRight (granted tt) (refused 10 Alone)))))
 
 -- How a granted request moves access: 0x01 prepares, 0x06 permits its kind in the place of an earlier one,
 -- neither ends the other, and every other request ends both.

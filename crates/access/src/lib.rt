@@ -1,14 +1,19 @@
 // Access: preparation and permission, which requests they let through, and how requests move them.
-ghost use mathlib.Core.Bool.{cond};
+ghost use lib.ListN.{length};
+ghost use mathlib.Core.Bool.{cond, not};
 ghost use mathlib.Core.Path.{_≡_};
-ghost use Rattle.access.specs.Decision.{afterwards, closed, indexPast, moved, unpermitted, unprepared, verdict};
+ghost use Rattle.access.specs.Decision.{afterwards, closed, holdsFour, indexPast, own, right, unpermitted, unprepared, verdict};
 ghost use Rattle.refusal.specs.Told.{answer};
 ghost use Rattle.request.specs.Asked.{meant};
 ghost use Rattle.request.specs.Rows.{Numbered, Sized};
+ghost use Rattle.request.specs.Writes.{passwordCell};
 ghost use Rattle.std.specs.Vec.{made};
 use refusal::Refusal;
 use request::Request;
 use request::rows::Needs;
+use request::rows::Tried;
+use store::Store;
+use store::neighbours::same_cells;
 
 // Which writes are permitted.
 #[derive(Clone, Copy, PartialEq, Eq, Debug)]
@@ -54,8 +59,9 @@ impl Access {
         CLOSED
     }
 
-    fn is_prepared_for(&self, needs: Needs) -> bool
-        ensures { λ r. ⌜ unprepared (now (self .entry)) needs ≡ cond r false true ⌝ }
+    // Whether it has the preparation that is needed.
+    fn is_prepared(&self, needs: Needs) -> bool
+        ensures { λ r. ⌜ unprepared (now (self .entry)) needs ≡ not r ⌝ }
     {
         match needs {
             Needs::Nothing => true,
@@ -63,4 +69,71 @@ impl Access {
             Needs::PreparationAndPermission => self.prepared,
         }
     }
+
+    // Whether it has the permission that is needed.
+    fn is_permitted(&self, needs: Needs) -> bool
+        ensures { λ r. ⌜ unpermitted (now (self .entry)) needs ≡ not r ⌝ }
+    {
+        match (needs, self.permitted) {
+            (Needs::Nothing, _) => true,
+            (Needs::Preparation, _) => true,
+            (Needs::PreparationAndPermission, Permitted::Setpoints) => true,
+            (Needs::PreparationAndPermission, Permitted::Counters) => false,
+            (Needs::PreparationAndPermission, Permitted::Nobody) => false,
+        }
+    }
+}
+
+// Whether a request for records begins past those held.
+fn is_past(request: &Request, held: u16) -> bool
+    ensures { λ r. ⌜ r ≡ indexPast held (meant (now (request .entry))) ⌝ }
+{
+    match *request {
+        Request::LogRecords { index, .. } => held <= index,
+        _ => false,
+    }
+}
+
+// Whether the stored password of its kind is the one tried.
+fn is_stored<S: Store>(store: &S, tried: &Tried) -> bool
+    requires { ⌜ length (now (now tried .bytes)) ≡ 4 ⌝ }
+    ensures { λ r. ⌜ r ≡ holdsFour (cells (now (store .entry))) (passwordCell (now (tried .entry) .kind)) (now (now (tried .entry) .bytes)) ⌝ }
+{
+    same_cells(store, tried.kind.first_cell(), tried.bytes)
+}
+
+// Whether the password that a request tries, if it tries one, is the stored one.
+fn is_right<S: Store>(store: &S, request: &Request) -> bool
+    requires { ⌜ Sized (meant (now request)) ⌝ }
+    ensures { λ r. ⌜ r ≡ right (cells (now (store .entry))) (meant (now (request .entry))) ⌝ }
+{
+    match request.password() {
+        None => true,
+        Some(tried) => is_stored(store, &tried),
+    }
+}
+
+// The least refusal that applies to a request, if one does.
+fn decided<S: Store>(access: &Access, request: &Request, store: &S, held: u16) -> Result<(), Refusal>
+    requires { ⌜ Sized (meant (now request)) ⌝ }
+    ensures told { λ r. ⌜ answer r ≡ verdict (now (access .entry)) (own (cells (now (store .entry)))) held (right (cells (now (store .entry))) (meant (now (request .entry)))) (meant (now (request .entry))) ⌝ }
+    ensures numbered { λ r. ⌜ made r (λ _. Numbered (meant (now (request .entry)))) ⌝ }
+{
+    let needs = request.needs();
+    if !access.is_prepared(needs) {
+        return Err(Refusal::NotPrepared);
+    }
+    if !access.is_permitted(needs) {
+        return Err(Refusal::NotPermitted);
+    }
+    if !request.is_checked(&[store.read(0), store.read(1)]) {
+        return Err(Refusal::Parameter);
+    }
+    if is_past(request, held) {
+        return Err(Refusal::LogIndex);
+    }
+    if !is_right(store, request) {
+        return Err(Refusal::WrongPassword);
+    }
+    Ok(())
 }
