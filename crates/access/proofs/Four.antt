@@ -29,10 +29,10 @@ holds cells first bytes long t i h =
 pub four : (cells : ℕ → ℕ) (first : ℕ) (bytes : List ℕ) (r : Bool) → length bytes ≡ 4 → Decides r (Hold cells first bytes) →
     r ≡ holdsFour cells first bytes
 four cells first bytes r long d =
-    same-from-decides r (holdsFour cells first bytes) d
-    ( holds cells first bytes long
-    , (λ h.
-        and-from _ _ (eq-eqb _ _ (h 0 (omega arith)))
-        (and-from _ _ (eq-eqb _ _ (h 1 (omega arith)))
-        (and-from _ _ (eq-eqb _ _ (h 2 (omega arith))) (eq-eqb _ _ (h 3 (omega arith))))))
+    same-from-decides r (holdsFour cells first bytes) d (
+      holds cells first bytes long,
+      (λ h.
+          and-from _ _ (eq-eqb _ _ (h 0 (omega arith)))
+          (and-from _ _ (eq-eqb _ _ (h 1 (omega arith)))
+          (and-from _ _ (eq-eqb _ _ (h 2 (omega arith))) (eq-eqb _ _ (h 3 (omega arith)))))),
     )

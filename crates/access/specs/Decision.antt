@@ -9,7 +9,7 @@ use Rattle.access.specs.declared.Permitted.{Permitted}
 use Rattle.access.specs.declared.Permitted.the-variants.{Nobody, Setpoints, Counters}
 use Rattle.refusal.specs.Told.{Answer, granted, refused}
 use Rattle.refusal.specs.declared.Company.the-variants.{Alone}
-use Rattle.request.specs.Asked.{Asked, prepare, changeAddress, readAddress, changePassword, permit, readings, writeSetpoint, setSpeed, setClock, readClock, writeMarks, readMarks, synchronise, readSetting, clearLog, logState, logRecords, writeConfiguration, readConfiguration, writeOutputMask}
+use Rattle.request.specs.Asked.{Asked, commandOf, prepare, changeAddress, readAddress, changePassword, permit, readings, writeSetpoint, setSpeed, setClock, readClock, writeMarks, readMarks, synchronise, readSetting, clearLog, logState, logRecords, writeConfiguration, readConfiguration, writeOutputMask}
 use Rattle.request.specs.Rows.{checked, needs, tries}
 use Rattle.request.specs.declared.rows.Needs.{Needs}
 use Rattle.request.specs.declared.rows.Needs.the-variants.{Nothing, Preparation, PreparationAndPermission}
@@ -91,31 +91,37 @@ verdict access address held isRight asked =
     (cond (indexPast held asked) (refused 9 Alone)
     (cond isRight (granted tt) (refused 10 Alone)))))
 
--- How a granted request moves access: 0x01 prepares, 0x06 permits its kind in the place of an earlier one,
--- neither ends the other, and every other request ends both.
-abbrev pub moved : Access → Asked → Access
-moved access (prepare key) = record { prepared = true; permitted = access .permitted }
-moved access (changeAddress own new) = closed
-moved access readAddress = closed
-moved access (changePassword kind old new) = closed
-moved access (permit password kind) = record { prepared = access .prepared; permitted = cond (eqb kind 0) Setpoints Counters }
-moved access (readings mask) = closed
-moved access (writeSetpoint number setpoint) = closed
-moved access (setSpeed code) = closed
-moved access (setClock date season) = closed
-moved access (readClock form) = closed
-moved access (writeMarks marks) = closed
-moved access readMarks = closed
-moved access synchronise = closed
-moved access (readSetting number which) = closed
-moved access (clearLog log password) = closed
-moved access (logState log) = closed
-moved access (logRecords log index count) = closed
-moved access (writeConfiguration bits events inputs debounce) = closed
-moved access readConfiguration = closed
-moved access (writeOutputMask number mask) = closed
+-- What a request to permit asks for: setpoints for kind 0, else counters.
+abbrev pub kindAsked : Asked → Permitted
+kindAsked (prepare key) = Nobody
+kindAsked (changeAddress own new) = Nobody
+kindAsked readAddress = Nobody
+kindAsked (changePassword kind old new) = Nobody
+kindAsked (permit password kind) = cond (eqb kind 0) Setpoints Counters
+kindAsked (readings mask) = Nobody
+kindAsked (writeSetpoint number setpoint) = Nobody
+kindAsked (setSpeed code) = Nobody
+kindAsked (setClock date season) = Nobody
+kindAsked (readClock form) = Nobody
+kindAsked (writeMarks marks) = Nobody
+kindAsked readMarks = Nobody
+kindAsked synchronise = Nobody
+kindAsked (readSetting number which) = Nobody
+kindAsked (clearLog log password) = Nobody
+kindAsked (logState log) = Nobody
+kindAsked (logRecords log index count) = Nobody
+kindAsked (writeConfiguration bits events inputs debounce) = Nobody
+kindAsked readConfiguration = Nobody
+kindAsked (writeOutputMask number mask) = Nobody
+
+-- How a granted command moves what stands: 0x01 prepares, 0x06 permits a kind in the place of an earlier
+-- one, neither ends the other, and every other command ends both.
+abbrev pub stepped : Access → ℕ → Permitted → Access
+stepped access command kind =
+    cond (eqb command 0x01) (record { prepared = true; permitted = access .permitted })
+    (cond (eqb command 0x06) (record { prepared = access .prepared; permitted = kind }) closed)
 
 -- A refused request ends both.
 abbrev pub afterwards : {T : Type 0} → Answer T → Access → Asked → Access
-afterwards (granted x) access asked = moved access asked
+afterwards (granted x) access asked = stepped access (commandOf asked) (kindAsked asked)
 afterwards (refused number company) access asked = closed

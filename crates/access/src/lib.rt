@@ -2,7 +2,7 @@
 ghost use lib.ListN.{length};
 ghost use mathlib.Core.Bool.{cond, not};
 ghost use mathlib.Core.Path.{_≡_};
-ghost use Rattle.access.specs.Decision.{afterwards, closed, holdsFour, indexPast, own, right, unpermitted, unprepared, verdict};
+ghost use Rattle.access.specs.Decision.{afterwards, closed, holdsFour, indexPast, kindAsked, own, right, stepped, unpermitted, unprepared, verdict};
 ghost use Rattle.refusal.specs.Told.{answer};
 ghost use Rattle.request.specs.Asked.{meant};
 ghost use Rattle.request.specs.Rows.{Numbered, Sized};
@@ -32,7 +32,10 @@ pub struct Access {
     pub permitted: Permitted,
 }
 
-const CLOSED: Access = Access { prepared: false, permitted: Permitted::Nobody };
+const CLOSED: Access = Access {
+    prepared: false,
+    permitted: Permitted::Nobody,
+};
 
 // Ends preparation and permission when it is let go, unless the request keeps them.
 struct Guard<'a> {
@@ -114,7 +117,12 @@ fn is_right<S: Store>(store: &S, request: &Request) -> bool
 }
 
 // The least refusal that applies to a request, if one does.
-fn decided<S: Store>(access: &Access, request: &Request, store: &S, held: u16) -> Result<(), Refusal>
+fn decided<S: Store>(
+    access: &Access,
+    request: &Request,
+    store: &S,
+    held: u16,
+) -> Result<(), Refusal>
     requires { ⌜ Sized (meant (now request)) ⌝ }
     ensures told { λ r. ⌜ answer r ≡ verdict (now (access .entry)) (own (cells (now (store .entry)))) held (right (cells (now (store .entry))) (meant (now (request .entry)))) (meant (now (request .entry))) ⌝ }
     ensures numbered { λ r. ⌜ made r (λ _. Numbered (meant (now (request .entry)))) ⌝ }
@@ -136,4 +144,75 @@ fn decided<S: Store>(access: &Access, request: &Request, store: &S, held: u16) -
         return Err(Refusal::WrongPassword);
     }
     Ok(())
+}
+
+impl Access {
+    // Moves by what stands and by the command together; `kind` is what a request to permit asks for. Tells
+    // whether the request keeps what then stands.
+    fn step(&mut self, command: u8, kind: Permitted) -> bool
+        ensures { λ r. ⌜ cond r (now (self .exit)) closed ≡ stepped (now (self .entry)) command kind ⌝ }
+    {
+        match (self.prepared, self.permitted, command) {
+            (_, _, 0x01) => {
+                self.prepared = true;
+                true
+            }
+            (_, _, 0x06) => {
+                self.permitted = kind;
+                true
+            }
+            (_, _, _) => false,
+        }
+    }
+}
+
+// What a request to permit asks for.
+fn kind_asked(request: &Request) -> Permitted
+    ensures { λ r. ⌜ r ≡ kindAsked (meant (now (request .entry))) ⌝ }
+{
+    match *request {
+        Request::Permit { kind: 0, .. } => Permitted::Setpoints,
+        Request::Permit { .. } => Permitted::Counters,
+        _ => Permitted::Nobody,
+    }
+}
+
+// Decides under the guard, which ends preparation and permission on every way out but those that keep them.
+fn guarded<S: Store>(
+    access: &mut Access,
+    request: &Request,
+    store: &S,
+    held: u16,
+) -> Result<(), Refusal>
+    requires { ⌜ Sized (meant (now request)) ⌝ }
+    ensures told { λ r. ⌜ answer r ≡ verdict (now (access .entry)) (own (cells (now (store .entry)))) held (right (cells (now (store .entry))) (meant (now (request .entry)))) (meant (now (request .entry))) ⌝ }
+    ensures moves { λ r. ⌜ now (access .exit) ≡ afterwards (answer r) (now (access .entry)) (meant (now (request .entry))) ⌝ }
+    ensures numbered { λ r. ⌜ made r (λ _. Numbered (meant (now (request .entry)))) ⌝ }
+{
+    let mut guard = Guard {
+        access,
+        keep: false,
+    };
+    decided(guard.access, request, store, held)?;
+    guard.keep = guard.access.step(request.code(), kind_asked(request));
+    Ok(())
+}
+
+// Decides on a request for this converter or broadcast, and moves access. `held` is the number of records
+// in the log that the request names.
+pub fn decide<S: Store>(
+    access: &mut Access,
+    request: &Request,
+    store: &S,
+    held: u16,
+) -> Result<(), Refusal>
+    requires { ⌜ Sized (meant (now request)) ⌝ }
+    ensures told { λ r. ⌜ answer r ≡ verdict (now (access .entry)) (own (cells (now (store .entry)))) held (right (cells (now (store .entry))) (meant (now (request .entry)))) (meant (now (request .entry))) ⌝ }
+    ensures moves { λ r. ⌜ now (access .exit) ≡ afterwards (answer r) (now (access .entry)) (meant (now (request .entry))) ⌝ }
+    ensures numbered { λ r. ⌜ made r (λ _. Numbered (meant (now (request .entry)))) ⌝ }
+{
+    let mut copy = *access;
+    let answer = guarded(&mut copy, request, store, held);
+    *access = copy;
+    answer
 }

@@ -91,3 +91,26 @@ meant (LogRecords log index count) = logRecords log index count
 meant (WriteConfiguration bits events inputs debounce) = writeConfiguration bits (now events) inputs debounce
 meant ReadConfiguration = readConfiguration
 meant (WriteOutputMask number mask) = writeOutputMask number (now mask)
+
+-- The code of the command.
+abbrev pub commandOf : Asked → ℕ
+commandOf (prepare key) = 0x01
+commandOf (changeAddress own new) = 0x02
+commandOf readAddress = 0x03
+commandOf (changePassword kind old new) = 0x04
+commandOf (permit password kind) = 0x06
+commandOf (readings mask) = 0x07
+commandOf (writeSetpoint number setpoint) = 0x12
+commandOf (setSpeed code) = 0x15
+commandOf (setClock date season) = 0x17
+commandOf (readClock form) = 0x18
+commandOf (writeMarks marks) = 0x19
+commandOf readMarks = 0x1A
+commandOf synchronise = 0x1B
+commandOf (readSetting number which) = 0x1C
+commandOf (clearLog log password) = 0x1D
+commandOf (logState log) = 0x1E
+commandOf (logRecords log index count) = 0x1F
+commandOf (writeConfiguration bits events inputs debounce) = 0x2B
+commandOf readConfiguration = 0x2C
+commandOf (writeOutputMask number mask) = 0x2E

@@ -4,7 +4,7 @@ ghost use lib.ListN.{length};
 ghost use mathlib.Core.Bool.{cond};
 ghost use mathlib.Core.Path.{_≡_};
 ghost use Prim.Native.Nat.{_+_, _*_};
-ghost use Rattle.request.specs.Asked.{asked, meant};
+ghost use Rattle.request.specs.Asked.{asked, commandOf, meant};
 ghost use Rattle.std.specs.declared.option.Option.the-variants.{None};
 ghost use Rattle.request.specs.Rows.{Sized};
 ghost use Rattle.std.specs.Options.{Cases, mapped};
@@ -175,6 +175,34 @@ impl<'a> Request<'a> {
                 mask: &p[1..9],
             }),
             _ => None,
+        }
+    }
+
+    // The code of its command.
+    pub fn code(&self) -> u8
+        ensures { λ r. ⌜ r ≡ commandOf (meant (now (self .entry))) ⌝ }
+    {
+        match self {
+            Request::Prepare { .. } => 0x01,
+            Request::ChangeAddress { .. } => 0x02,
+            Request::ReadAddress => 0x03,
+            Request::ChangePassword { .. } => 0x04,
+            Request::Permit { .. } => 0x06,
+            Request::Readings { .. } => 0x07,
+            Request::WriteSetpoint { .. } => 0x12,
+            Request::SetSpeed { .. } => 0x15,
+            Request::SetClock { .. } => 0x17,
+            Request::ReadClock { .. } => 0x18,
+            Request::WriteMarks { .. } => 0x19,
+            Request::ReadMarks => 0x1a,
+            Request::Synchronise => 0x1b,
+            Request::ReadSetting { .. } => 0x1c,
+            Request::ClearLog { .. } => 0x1d,
+            Request::LogState { .. } => 0x1e,
+            Request::LogRecords { .. } => 0x1f,
+            Request::WriteConfiguration { .. } => 0x2b,
+            Request::ReadConfiguration => 0x2c,
+            Request::WriteOutputMask { .. } => 0x2e,
         }
     }
 }
