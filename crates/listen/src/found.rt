@@ -1,37 +1,11 @@
 // What was found in a line, printed.
+use crate::asked;
 use request_frame::REQUEST_BYTES;
 use request_frame::Request;
 use request_frame::read_request;
 use request_frame::search;
 use request_frame::unfinished;
 use std::io;
-
-// The name of a command, as far as it is known here.
-fn command_name(command: u8) -> &'static str {
-    match command {
-        0x01 => "prepare",
-        0x02 => "change address",
-        0x03 => "read address",
-        0x04 => "change password",
-        0x06 => "permit",
-        0x07 => "readings by mask",
-        0x12 => "write setpoint",
-        0x15 => "set speed",
-        0x17 => "set clock",
-        0x18 => "read clock",
-        0x19 => "write season marks",
-        0x1a => "read season marks",
-        0x1b => "synchronise clock",
-        0x1c => "read setpoint or output mask",
-        0x1d => "clear log",
-        0x1e => "log state",
-        0x1f => "log records",
-        0x2b => "write device configuration",
-        0x2c => "read device configuration",
-        0x2e => "write output mask",
-        _ => "unknown command",
-    }
-}
 
 // Prints bytes as pairs of digits, each behind a blank.
 fn print_bytes(rt: &LibcRuntime, bytes: &[u8]) -> io::Result<()> {
@@ -56,15 +30,15 @@ fn tell_part(rt: &LibcRuntime, what: &str, place: usize, bytes: &[u8]) -> io::Re
 fn tell_request(rt: &LibcRuntime, place: usize, request: &Request, word: &[u8]) -> io::Result<()> {
     let address = request.address;
     let command = request.command;
-    let name = command_name(command);
     print!(
         rt,
-        "{place:>6}  request        18  address {address:#06x}, command {command:#04x} ({name}), parameters"
+        "{place:>6}  request        18  address {address:#06x}, command {command:#04x}, parameters"
     )?;
     print_bytes(rt, request.parameters)?;
     print!(rt, ", check word")?;
     print_bytes(rt, word)?;
-    println!(rt, "")
+    println!(rt, "")?;
+    asked::tell(rt, command, request.parameters)
 }
 
 // Prints what is left behind the last request, and gives how many bytes of it may still become one.

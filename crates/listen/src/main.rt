@@ -1,4 +1,5 @@
 // Listens to captured bytes: finds the requests in them and prints everything it met.
+mod asked;
 mod capture;
 mod found;
 
