@@ -40,8 +40,8 @@ let-through : (access : Access) (address : List ℕ) (held : ℕ) (right : Bool)
 let-through access address held right asked p q =
     let rest : Answer Unit = left (checked address asked) (indexPast held asked) right in
     let is : verdict access address held right asked ≡ rest =
-        cond-false (unprepared access (needs asked)) (refused 6 Alone) (cond (unpermitted access (needs asked)) (refused 7 Alone) rest) p
-        ∙ cond-false (unpermitted access (needs asked)) (refused 7 Alone) rest q in
+    cond-false (unprepared access (needs asked)) (refused 6 Alone) (cond (unpermitted access (needs asked)) (refused 7 Alone) rest) p
+    ∙ cond-false (unpermitted access (needs asked)) (refused 7 Alone) rest q in
     let no = neither (checked address asked) (indexPast held asked) right in
     ((λ e. no .0 (sym is ∙ e)), (λ e. no .1 (sym is ∙ e)))
 

@@ -17,7 +17,7 @@ pub data Turn : List Asked → Asked → Type 0 where
   writes : (asked : Asked) → openWrites (commandOf asked) ≡ true → Turn (prepare 0xA5 ∷ []) asked
   closes : Turn (prepare 0xA5 ∷ []) readAddress
   writesPermitted : (password : List ℕ) (asked : Asked) → permittedWrites (commandOf asked) ≡ true →
-    Turn (prepare 0xA5 ∷ permit password 0 ∷ []) asked
+      Turn (prepare 0xA5 ∷ permit password 0 ∷ []) asked
   closesPermitted : (password : List ℕ) → Turn (prepare 0xA5 ∷ permit password 0 ∷ []) readAddress
 
 -- What stands after requests that were all granted, one right behind another.
