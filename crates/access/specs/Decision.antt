@@ -1,10 +1,12 @@
 -- Access: what stands, which requests it lets through, and how it moves.
-use Prim.Native.Nat.{ℕ, _+_}
+use Prim.Native.Nat.{ℕ, _+_, _*_}
 use lib.Dec.{eqb, leb}
 use mathlib.Core.Bool.{Bool, true, false, cond, not, _&&_}
 use lib.ListN.{getD}
 use mathlib.Core.List.{List, [], _∷_}
 use Rattle.access.specs.declared.Access.{Access}
+use Rattle.access.specs.declared.Destination.{Destination}
+use Rattle.access.specs.declared.Destination.the-variants.{Own, Broadcast, Foreign}
 use Rattle.access.specs.declared.Permitted.{Permitted}
 use Rattle.access.specs.declared.Permitted.the-variants.{Nobody, Setpoints, Counters}
 use Rattle.refusal.specs.Told.{Answer, granted, refused}
@@ -80,6 +82,10 @@ right cells asked = rightFor cells (tries asked)
 -- The converter's own address.
 abbrev pub own : (ℕ → ℕ) → List ℕ
 own cells = cells 0 ∷ cells 1 ∷ []
+
+-- For whom a frame is: 0x00FF is always broadcast.
+abbrev pub destinationOf : (ℕ → ℕ) → ℕ → Destination
+destinationOf cells address = cond (eqb address 0x00FF) Broadcast (cond (eqb address (cells 0 + 256 * cells 1)) Own Foreign)
 
 -- What is answered to a request for this converter or broadcast, by what stands, the converter's address,
 -- the number of records held and whether the password tried is right: the least number that applies.

@@ -2,7 +2,7 @@
 ghost use lib.ListN.{length};
 ghost use mathlib.Core.Bool.{cond, not};
 ghost use mathlib.Core.Path.{_≡_};
-ghost use Rattle.access.specs.Decision.{afterwards, closed, holdsFour, indexPast, kindAsked, own, right, stepped, unpermitted, unprepared, verdict};
+ghost use Rattle.access.specs.Decision.{afterwards, closed, destinationOf, holdsFour, indexPast, kindAsked, own, right, stepped, unpermitted, unprepared, verdict};
 ghost use Rattle.refusal.specs.Told.{answer};
 ghost use Rattle.request.specs.Asked.{meant};
 ghost use Rattle.request.specs.Rows.{Numbered, Sized};
@@ -36,6 +36,29 @@ const CLOSED: Access = Access {
     prepared: false,
     permitted: Permitted::Nobody,
 };
+
+// For whom a frame is.
+#[derive(Clone, Copy, PartialEq, Eq, Debug)]
+pub enum Destination {
+    Own,
+    Broadcast,
+    Foreign,
+}
+
+// For whom a frame with that address is, at a converter with that store.
+pub fn destination_of<S: Store>(store: &S, address: u16) -> Destination
+    ensures { λ r. ⌜ r ≡ destinationOf (cells (now (store .entry))) address ⌝ }
+{
+    if address == 0x00ff {
+        return Destination::Broadcast;
+    }
+    let own = u16::from(store.read(0)) + 256 * u16::from(store.read(1));
+    if address == own {
+        Destination::Own
+    } else {
+        Destination::Foreign
+    }
+}
 
 // Ends preparation and permission when it is let go, unless the request keeps them.
 struct Guard<'a> {

@@ -4,12 +4,17 @@ mod tests {
     use access::Access;
     use access::AccessDebug;
     use access::AccessPartialEq;
+    use access::Destination;
+    use access::DestinationDebug;
+    use access::DestinationPartialEq;
     use access::Permitted;
     use access::decide;
+    use access::destination_of;
     use refusal::Refusal;
     use request::Request;
     use std::test::*;
     use store::Filled;
+    use store::Store;
     use store::flat::Flat;
     use store::flat::FlatFilled;
     use store::flat::FlatStore;
@@ -274,5 +279,91 @@ mod tests {
             serve(&mut access, &store, case)?;
         }
         Ok(())
+    }
+
+    // A granted write, a cell that it sets, and the byte that it gives it.
+    struct Write {
+        command: u8,
+        parameters: [u8; 9],
+        cell: u8,
+        byte: u8,
+    }
+
+    const WRITES: [Write; 8] = [
+        Write {
+            command: 0x15,
+            parameters: [0x13, 0, 0, 0, 0, 0, 0, 0, 0],
+            cell: 2,
+            byte: 0x13,
+        },
+        Write {
+            command: 0x19,
+            parameters: [3, 5, 2, 10, 5, 24, 0, 0, 0],
+            cell: 16,
+            byte: 24,
+        },
+        Write {
+            command: 0x12,
+            parameters: [15, 128, 1, 11, 12, 13, 14, 15, 16],
+            cell: 160,
+            byte: 16,
+        },
+        Write {
+            command: 0x2e,
+            parameters: [3, 21, 22, 23, 24, 25, 26, 27, 28],
+            cell: 185,
+            byte: 21,
+        },
+        Write {
+            command: 0x2b,
+            parameters: [0x11, 31, 32, 0, 0, 0, 33, 0, 0],
+            cell: 19,
+            byte: 33,
+        },
+        // no debounce time given: 6
+        Write {
+            command: 0x2b,
+            parameters: [0x10, 41, 42, 0, 0, 0, 43, 0, 0],
+            cell: 20,
+            byte: 6,
+        },
+        Write {
+            command: 0x04,
+            parameters: [2, 5, 6, 7, 8, 51, 52, 53, 54],
+            cell: 10,
+            byte: 54,
+        },
+        Write {
+            command: 0x02,
+            parameters: [0x12, 0x01, 0x34, 0x02, 0, 0, 0, 0, 0],
+            cell: 1,
+            byte: 2,
+        },
+    ];
+
+    fn write_one(store: &mut Flat, case: &Write) -> Result<(), Fail> {
+        let Some(request) = Request::of(case.command, &case.parameters) else {
+            return Err(Fail::new("unknown command"));
+        };
+        let mut access = Access {
+            prepared: true,
+            permitted: Permitted::Setpoints,
+        };
+        match decide(&mut access, &request, store, 0) {
+            Ok(()) => request.write_to(store),
+            Err(_) => return Err(Fail::new("refused")),
+        }
+        check_eq(store.read(case.cell), case.byte)
+    }
+
+    #[test]
+    fn writes_reach_their_cells() -> Result<(), Fail> {
+        let mut store = Flat::filled(cells());
+        for case in &WRITES {
+            write_one(&mut store, case)?;
+        }
+        check_eq(destination_of(&store, 0x0234), Destination::Own)?;
+        check_eq(destination_of(&store, 0x0112), Destination::Foreign)?;
+        check_eq(destination_of(&store, 0x00ff), Destination::Broadcast)
     }
 }

@@ -2,6 +2,7 @@
 use request::Request;
 use request::rows::Needs;
 use request::rows::PasswordKind;
+use request_frame::Request as Frame;
 use std::io;
 
 // What the request asks to do; a number belongs behind some of these words.
@@ -65,9 +66,9 @@ fn password_in_words(request: &Request) -> &'static str {
     }
 }
 
-// Prints what a command with its parameters asks, and what its row needs.
-pub fn tell(rt: &LibcRuntime, command: u8, parameters: &[u8]) -> io::Result<()> {
-    let Some(request) = Request::of(command, parameters) else {
+// Prints what a frame asks, and what its row needs.
+pub fn tell(rt: &LibcRuntime, frame: &Frame) -> io::Result<()> {
+    let Ok(request) = Request::read(frame) else {
         return println!(rt, "                       no row has this command");
     };
     let asked = words(&request);

@@ -38,7 +38,7 @@ fn tell_request(rt: &LibcRuntime, place: usize, request: &Request, word: &[u8]) 
     print!(rt, ", check word")?;
     print_bytes(rt, word)?;
     println!(rt, "")?;
-    asked::tell(rt, command, request.parameters)
+    asked::tell(rt, request)
 }
 
 // Prints what is left behind the last request, and gives how many bytes of it may still become one.

@@ -1,13 +1,12 @@
 // Requests by what they ask: a case for each command, with the parts of the line that its row names.
-ghost use lib.Dec.{eqb};
-ghost use lib.ListN.{length};
-ghost use mathlib.Core.Bool.{cond};
 ghost use mathlib.Core.Path.{_≡_};
 ghost use Prim.Native.Nat.{_+_, _*_};
-ghost use Rattle.request.specs.Asked.{asked, commandOf, meant};
-ghost use Rattle.std.specs.declared.option.Option.the-variants.{None};
+ghost use Rattle.request.specs.Asked.{commandOf, meant};
+ghost use Rattle.request.specs.Reading.{Asks, askedIn};
 ghost use Rattle.request.specs.Rows.{Sized};
 ghost use Rattle.std.specs.Options.{Cases, mapped};
+use refusal::Refusal;
+use request_frame::Request as Frame;
 
 pub mod rows;
 pub mod writes;
@@ -113,7 +112,7 @@ fn word(low: u8, high: u8) -> u16
 impl<'a> Request<'a> {
     // What a command with its nine parameters asks, if there is such a command.
     pub fn of(command: u8, p: &'a [u8]) -> Option<Request<'a>>
-        ensures asks { λ r. ⌜ mapped meant r ≡ cond (eqb (length (now (p .entry))) 9) (asked command (now (p .entry))) None ⌝ }
+        ensures asks { λ r. ⌜ mapped meant r ≡ askedIn command (now (p .entry)) ⌝ }
         ensures sized { λ r. ⌜ Cases r (Unit {0}) (λ q. Sized (meant q)) ⌝ }
     {
         if p.len() != 9 {
@@ -175,6 +174,16 @@ impl<'a> Request<'a> {
                 mask: &p[1..9],
             }),
             _ => None,
+        }
+    }
+
+    // What a frame of the line asks. A command that is in no row is refused.
+    pub fn read(frame: &Frame<'a>) -> Result<Request<'a>, Refusal>
+        ensures { λ r. ⌜ Asks (now (frame .entry) .command) (now (now (frame .entry) .parameters)) r ⌝ }
+    {
+        match Request::of(frame.command, frame.parameters) {
+            Some(request) => Ok(request),
+            None => Err(Refusal::UnknownCommand),
         }
     }
 
