@@ -86,7 +86,7 @@ impl Refusal {
 
     // What comes with the number from a call that looked through a line of `length` bytes; `behind` is
     // the place behind the frame that was refused, where one was found.
-    pub fn heard(self, length: usize, behind: usize) -> Company
+    pub fn with_used(self, length: usize, behind: usize) -> Company
         ensures { λ r. ⌜ r ≡ Company.Used (used (number self) length behind) ⌝ }
     {
         match self {

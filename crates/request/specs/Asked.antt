@@ -1,7 +1,7 @@
 -- What a request asks: its command, and the parts of its parameters that the command's row names.
 use Prim.Native.Nat.{ℕ, _+_, _-_, _*_}
 use lib.Dec.{eqb}
-use lib.ListN.{length, getD, take, drop}
+use lib.ListN.{getD, take, drop}
 use mathlib.Core.Bool.{cond}
 use mathlib.Core.List.{List}
 use denote.Ref.{now}
@@ -9,36 +9,36 @@ use Rattle.request.specs.declared.Request.{Request}
 use Rattle.request.specs.declared.Request.the-variants.{Prepare, ChangeAddress, ReadAddress, ChangePassword, Permit, Readings, WriteSetpoint, SetSpeed, SetClock, ReadClock, WriteMarks, ReadMarks, Synchronise, ReadSetting, ClearLog, LogState, LogRecords, WriteConfiguration, ReadConfiguration, WriteOutputMask}
 use Rattle.std.specs.declared.option.Option.{Option}
 use Rattle.std.specs.declared.option.Option.the-variants.{Some, None}
-use Rattle.std.specs.Options.{mapped}
 
+-- A case for each command, with the parts that its row names, in the order of the parameters.
 pub data Asked : Type 0 where
-  prepare : ℕ → Asked
-  changeAddress : List ℕ → List ℕ → Asked
+  prepare : (key : ℕ) → Asked
+  changeAddress : (own new : List ℕ) → Asked
   readAddress : Asked
-  changePassword : ℕ → List ℕ → List ℕ → Asked
-  permit : List ℕ → ℕ → Asked
-  readings : List ℕ → Asked
-  writeSetpoint : ℕ → List ℕ → Asked
-  setSpeed : ℕ → Asked
-  setClock : List ℕ → ℕ → Asked
-  readClock : ℕ → Asked
-  writeMarks : List ℕ → Asked
+  changePassword : (kind : ℕ) (old new : List ℕ) → Asked
+  permit : (password : List ℕ) (kind : ℕ) → Asked
+  readings : (mask : List ℕ) → Asked
+  writeSetpoint : (number : ℕ) (setpoint : List ℕ) → Asked
+  setSpeed : (code : ℕ) → Asked
+  setClock : (date : List ℕ) (season : ℕ) → Asked
+  readClock : (form : ℕ) → Asked
+  writeMarks : (marks : List ℕ) → Asked
   readMarks : Asked
   synchronise : Asked
-  readSetting : ℕ → ℕ → Asked
-  clearLog : ℕ → List ℕ → Asked
-  logState : ℕ → Asked
-  logRecords : ℕ → ℕ → ℕ → Asked
-  writeConfiguration : ℕ → List ℕ → ℕ → ℕ → Asked
+  readSetting : (number which : ℕ) → Asked
+  clearLog : (log : ℕ) (password : List ℕ) → Asked
+  logState : (log : ℕ) → Asked
+  logRecords : (log index count : ℕ) → Asked
+  writeConfiguration : (bits : ℕ) (events : List ℕ) (inputs debounce : ℕ) → Asked
   readConfiguration : Asked
-  writeOutputMask : ℕ → List ℕ → Asked
+  writeOutputMask : (number : ℕ) (mask : List ℕ) → Asked
 
--- One of the parameters P1 to P9, and some of them from one on.
+-- Parameter i of P1 to P9, and n parameters from parameter i on.
 abbrev pub parameter : List ℕ → ℕ → ℕ
 parameter ps i = getD ps (i - 1) 0
 
-abbrev pub some : List ℕ → ℕ → ℕ → List ℕ
-some ps i n = take n (drop (i - 1) ps)
+abbrev pub parameters : List ℕ → ℕ → ℕ → List ℕ
+parameters ps i n = take n (drop (i - 1) ps)
 
 -- A number of two bytes, low byte first.
 abbrev pub word : List ℕ → ℕ → ℕ
@@ -47,26 +47,26 @@ word ps i = parameter ps i + 256 * parameter ps (i + 1)
 -- What a command with its nine parameters asks; parameters that the row does not name are not looked at.
 abbrev pub asked : ℕ → List ℕ → Option Asked
 asked command ps =
-    cond (eqb command 1) (Some (prepare (parameter ps 1)))
-    (cond (eqb command 2) (Some (changeAddress (some ps 1 2) (some ps 3 2)))
-    (cond (eqb command 3) (Some readAddress)
-    (cond (eqb command 4) (Some (changePassword (parameter ps 1) (some ps 2 4) (some ps 6 4)))
-    (cond (eqb command 6) (Some (permit (some ps 1 4) (parameter ps 5)))
-    (cond (eqb command 7) (Some (readings (some ps 1 3)))
-    (cond (eqb command 18) (Some (writeSetpoint (parameter ps 1) (some ps 2 8)))
-    (cond (eqb command 21) (Some (setSpeed (parameter ps 1)))
-    (cond (eqb command 23) (Some (setClock (some ps 1 6) (parameter ps 9)))
-    (cond (eqb command 24) (Some (readClock (parameter ps 1)))
-    (cond (eqb command 25) (Some (writeMarks (some ps 1 6)))
-    (cond (eqb command 26) (Some readMarks)
-    (cond (eqb command 27) (Some synchronise)
-    (cond (eqb command 28) (Some (readSetting (parameter ps 1) (parameter ps 2)))
-    (cond (eqb command 29) (Some (clearLog (parameter ps 1) (some ps 2 4)))
-    (cond (eqb command 30) (Some (logState (parameter ps 1)))
-    (cond (eqb command 31) (Some (logRecords (parameter ps 1) (word ps 2) (word ps 4)))
-    (cond (eqb command 43) (Some (writeConfiguration (parameter ps 1) (some ps 2 2) (parameter ps 7) (parameter ps 8)))
-    (cond (eqb command 44) (Some readConfiguration)
-    (cond (eqb command 46) (Some (writeOutputMask (parameter ps 1) (some ps 2 8)))
+    cond (eqb command 0x01) (Some (prepare (parameter ps 1)))
+    (cond (eqb command 0x02) (Some (changeAddress (parameters ps 1 2) (parameters ps 3 2)))
+    (cond (eqb command 0x03) (Some readAddress)
+    (cond (eqb command 0x04) (Some (changePassword (parameter ps 1) (parameters ps 2 4) (parameters ps 6 4)))
+    (cond (eqb command 0x06) (Some (permit (parameters ps 1 4) (parameter ps 5)))
+    (cond (eqb command 0x07) (Some (readings (parameters ps 1 3)))
+    (cond (eqb command 0x12) (Some (writeSetpoint (parameter ps 1) (parameters ps 2 8)))
+    (cond (eqb command 0x15) (Some (setSpeed (parameter ps 1)))
+    (cond (eqb command 0x17) (Some (setClock (parameters ps 1 6) (parameter ps 9)))
+    (cond (eqb command 0x18) (Some (readClock (parameter ps 1)))
+    (cond (eqb command 0x19) (Some (writeMarks (parameters ps 1 6)))
+    (cond (eqb command 0x1A) (Some readMarks)
+    (cond (eqb command 0x1B) (Some synchronise)
+    (cond (eqb command 0x1C) (Some (readSetting (parameter ps 1) (parameter ps 2)))
+    (cond (eqb command 0x1D) (Some (clearLog (parameter ps 1) (parameters ps 2 4)))
+    (cond (eqb command 0x1E) (Some (logState (parameter ps 1)))
+    (cond (eqb command 0x1F) (Some (logRecords (parameter ps 1) (word ps 2) (word ps 4)))
+    (cond (eqb command 0x2B) (Some (writeConfiguration (parameter ps 1) (parameters ps 2 2) (parameter ps 7) (parameter ps 8)))
+    (cond (eqb command 0x2C) (Some readConfiguration)
+    (cond (eqb command 0x2E) (Some (writeOutputMask (parameter ps 1) (parameters ps 2 8)))
     None)))))))))))))))))))
 
 -- What a request of the code means.
