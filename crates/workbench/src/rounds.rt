@@ -2,23 +2,17 @@
 use log::Position;
 use log::reading::record_at;
 use log::ring::note_gap;
-use records::Kind;
 use records::PowerGap;
-use records::PowerGapKind;
 use refusal::Refusal;
 use std::io;
 
-// The records that a log holds, oldest first, as bytes.
+// The records that a log holds, oldest first.
 fn tell_held(rt: &LibcRuntime, position: &Position, memory: &[PowerGap]) -> io::Result<()> {
     for index in 0..position.held() {
         if let Ok(gap) = record_at(position, memory, index) {
-            let mut bytes = [0u8; 9];
-            gap.put(&mut bytes);
-            print!(rt, "    {index}:")?;
-            for byte in &bytes {
-                print!(rt, " {byte:02x}")?;
-            }
-            println!(rt, "")?;
+            let off = gap.off;
+            let on = gap.on;
+            println!(rt, "    {index}: off at {off}, on at {on}")?;
         }
     }
     Ok(())
