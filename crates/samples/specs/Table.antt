@@ -6,6 +6,7 @@ use mathlib.Core.List.{List, [], _∷_}
 use mathlib.Core.Path.{_≡_}
 use Rattle.calendar.specs.Dates.{isLawful}
 use Rattle.calendar.specs.Times.{Time, dateIn, nineBytes, synchronised}
+use Rattle.calendar.specs.declared.DateTime.{DateTime}
 use Rattle.calendar.specs.declared.Season.the-variants.{Winter}
 use Rattle.log.specs.Logs.{newest, toldCount, toldMax}
 use Rattle.records.specs.Records.{eventBytes, gapBytes}
@@ -15,6 +16,10 @@ use Rattle.reply_frame.specs.Replies.{reply}
 -- A time at a whole second, in winter.
 abbrev pub at : ℕ → Time
 at seconds = record { seconds = seconds; ticks = 0; season = Winter }
+
+-- The last date of the clock.
+abbrev pub lastDate : DateTime
+lastDate = dateIn (99 ∷ 12 ∷ 31 ∷ 23 ∷ 59 ∷ 59 ∷ [])
 
 pub record Table : Type 0 where
   -- 0 s is 2000-01-01 00:00:00, weekday 6

@@ -1,13 +1,15 @@
 use Prim.Native.Nat.{ℕ}
-use mathlib.Core.Path.{ap, refl, _∙_}
+use borrow.Author.Needs.{needs}
+use mathlib.Core.Path.{_≡_, ap, refl, _∙_}
 use Rattle.calendar.specs.Dates.{before, dateOf, isLawful, monthDays, reached, yearDays}
 use Rattle.reply_frame.proofs.Parts.{length-reply}
 use Rattle.reply_frame.specs.Replies.{dataLen, onLine}
-use Rattle.samples.proofs.table_holds.Needs as need
+use Rattle.samples.specs.Table.{Table, lastDate}
+use Rattle.samples.proofs.last_date.Needs as need
 
-pub returns : need.returns
+table : Table
 unfolding before dateOf isLawful monthDays reached yearDays
-returns c =
+table =
     record {
       start = refl;
       march = refl;
@@ -25,3 +27,10 @@ returns c =
       record-max = refl;
       oldest-held = λ a b c d. refl;
     }
+
+last : dateOf 3155759999 ≡ lastDate
+unfolding before dateOf monthDays reached yearDays
+last = refl
+
+pub returns : need.returns
+returns c = record { told = search (last, needs); table = table }
