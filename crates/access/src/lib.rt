@@ -1,4 +1,6 @@
 // Access: preparation and permission, which requests they let through, and how requests move them.
+#![tactic(auto)]
+
 ghost use Rattle.std.specs.Prelude.{◌≡◌, not, length, if◌then◌else◌, OnOk};
 ghost use Rattle.access.specs.Decision.{afterwards, closed, destination_of, holds_four, index_past, kind_asked, own, right, stepped, unpermitted, unprepared, verdict};
 ghost use Rattle.refusal.specs.Told.{answer};

@@ -1,4 +1,6 @@
 // Access over a list of requests: what is answered to each, and what stands afterwards.
+#![tactic(auto)]
+
 #[cfg(test)]
 mod tests {
     use access::{Access, Destination, Permitted, decide, destination_of};

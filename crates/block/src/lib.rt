@@ -1,4 +1,6 @@
 // Blocks: bytes with their check word behind them, and the block that opens every frame.
+#![tactic(auto)]
+
 ghost use Rattle.std.specs.Prelude.{◌≡◌, ◌+◌, ◌/◌, ◌%◌, ◌≤◌, ◌∷◌, ◌++◌, length, drop, Decides};
 ghost use Rattle.block.specs.Block.{Block, opening, sealed};
 

@@ -1,4 +1,6 @@
 // A cabinet at the desk: a converter that is ordered about by lines of text, and what came of each.
+#![tactic(auto)]
+
 mod bench;
 mod cabinet;
 mod calls;

@@ -2,8 +2,8 @@
 use crate::bench::Bench;
 use access::{Access, Permitted};
 use converter::Converter;
-use log::Position;
-use log::reading::record_at;
+use ring_log::Position;
+use ring_log::reading::record_at;
 use orders::Shown;
 use records::Kind;
 use std::{fmt, io};

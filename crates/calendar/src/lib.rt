@@ -1,4 +1,6 @@
 // The converter's clock and its dates, from 2000-01-01 00:00:00 to the end of 2099.
+#![tactic(auto)]
+
 ghost use Rattle.std.specs.Prelude.{◌≡◌, ◌≤◌};
 
 mod dates;

@@ -1,4 +1,6 @@
 // Cases of the calendar: dates and seconds by another calendar, and the clock's calls by hand.
+#![tactic(auto)]
+
 #[cfg(test)]
 mod tests {
     use calendar::{Clock, DateTime, Season};

@@ -1,4 +1,6 @@
 // The check word of FT3: what the sixteen-bit register holds after a list of bytes, complemented.
+#![tactic(auto)]
+
 ghost use Rattle.std.specs.Prelude.{◌≡◌, true};
 ghost use Rattle.check_word.specs.CheckWord.{byte_in, check_word, holds};
 

@@ -1,4 +1,6 @@
 // The engineer's checklist at a cabinet: what a converter is asked, what came, and whether that is right.
+#![tactic(auto)]
+
 ghost use Rattle.std.specs.Prelude.{◌≤◌, IfOk};
 
 mod answers;

@@ -1,5 +1,7 @@
 // The converter: started over a store, it hears lines, goes on in time, is given readings, and notes
 // records.
+#![tactic(auto)]
+
 ghost use Rattle.std.specs.Prelude.{◌≡◌, List};
 ghost use Rattle.converter.specs.Told.{view};
 ghost use Rattle.device.specs.Life.{fresh};

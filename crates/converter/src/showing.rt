@@ -10,7 +10,7 @@ use crate::Converter;
 use access::Access;
 use calendar::Clock;
 use device::logs::both;
-use log::Position;
+use ring_log::Position;
 use store::Store;
 
 // All that stands but for the cells, the readings and the records.

@@ -1,4 +1,6 @@
 // Whole runs of a converter against answers that were worked out elsewhere.
+#![tactic(auto)]
+
 #[cfg(test)]
 mod tests {
     use records::{Event, PowerGap};

@@ -5,8 +5,8 @@ use Rattle.access.specs.Decision.{closed}
 use Rattle.access.specs.declared.Access.{Access}
 use Rattle.calendar.specs.Times.{Time, shown, start}
 use Rattle.device.specs.declared.Inner.{Inner}
-use Rattle.log.specs.Logs.{around, started}
-use Rattle.log.specs.declared.Position.{Position}
+use Rattle.ring_log.specs.Logs.{around, started}
+use Rattle.ring_log.specs.declared.Position.{Position}
 use Rattle.records.specs.declared.Event.{Event}
 use Rattle.records.specs.declared.PowerGap.{PowerGap}
 

@@ -3,8 +3,8 @@ use Rattle.std.specs.Prelude.{◌≡◌, ℕ, ◌+◌, ◌*◌, Bool, cond, List
 use Rattle.calendar.specs.Dates.{is_lawful}
 use Rattle.calendar.specs.Times.{Time, date_in, nine_bytes, set_to, synchronised}
 use Rattle.device.specs.Life.{Life, Ring, emptied, held_in, held_number}
-use Rattle.log.specs.Reading.{sent_bytes}
-use Rattle.log.specs.declared.Position.{Position}
+use Rattle.ring_log.specs.Reading.{sent_bytes}
+use Rattle.ring_log.specs.declared.Position.{Position}
 use Rattle.readings.specs.Readings.{masked}
 use Rattle.records.specs.declared.Event.{Event}
 use Rattle.records.specs.declared.PowerGap.{PowerGap}

@@ -1,4 +1,6 @@
 // What a converter holds, what a granted request does to it, and which data it is answered with.
+#![tactic(auto)]
+
 ghost use Rattle.std.specs.Prelude.{◌≡◌, List};
 ghost use Rattle.device.specs.Life.{fresh, seen};
 ghost use Rattle.records.specs.declared.Event.{Event as Noted};
@@ -6,7 +8,7 @@ ghost use Rattle.records.specs.declared.PowerGap.{PowerGap as Gap};
 
 use access::Access;
 use calendar::Clock;
-use log::Position;
+use ring_log::Position;
 use store::Store;
 
 pub mod answering;

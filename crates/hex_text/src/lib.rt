@@ -1,4 +1,6 @@
 // Bytes written as hexadecimal text: pairs of digits, blanks between pairs, `#` before a comment.
+#![tactic(auto)]
+
 ghost use Rattle.std.specs.Prelude.{◌≡◌};
 ghost use Rattle.hex_text.specs.declared.Fault.TheVariants.{Memory};
 ghost use Rattle.hex_text.specs.Text.{Reads, Small, mark_of};

@@ -1,4 +1,6 @@
 // Listens to captured bytes: finds the requests in them and prints everything it met.
+#![tactic(auto)]
+
 mod asked;
 mod capture;
 mod found;

@@ -1,11 +1,12 @@
 // Records and logs on examples whose values were computed elsewhere.
+#![tactic(auto)]
 
 #[cfg(test)]
 mod tests {
     use calendar::Clock;
-    use log::Position;
-    use log::reading::{copy_out, record_at};
-    use log::ring::{note_event, note_gap};
+    use ring_log::Position;
+    use ring_log::reading::{copy_out, record_at};
+    use ring_log::ring::{note_event, note_gap};
     use records::{Event, Kind, PowerGap, Report};
     use refusal::Refusal;
     use std::process::Abort;

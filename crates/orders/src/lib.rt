@@ -1,4 +1,6 @@
 // Orders to a cabinet: what one line of text asks for.
+#![tactic(auto)]
+
 use records::{PowerGap, Report};
 use std::fmt;
 

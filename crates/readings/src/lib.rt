@@ -1,4 +1,6 @@
 // The readings of a converter: which of them a mask chooses.
+#![tactic(auto)]
+
 ghost use Rattle.std.specs.Prelude.{◌≡◌, ◌≤◌, ◌++◌, length, drop};
 ghost use Rattle.readings.specs.Readings.{masked};
 

@@ -1,4 +1,6 @@
 // Why a call grants nothing: one list for the converter, the station and the line.
+#![tactic(auto)]
+
 ghost use Rattle.std.specs.Prelude.{◌≡◌};
 ghost use Rattle.refusal.specs.Told.{number, company, used};
 

@@ -1,4 +1,6 @@
 // Replies on the line: written into given memory, and read back whole.
+#![tactic(auto)]
+
 ghost use Rattle.std.specs.Prelude.{◌≡◌, ℕ, ◌≤◌, true, List, ◌++◌, length, take, drop, if◌then◌else◌};
 ghost use Rattle.refusal.specs.Told.{answer, granted, refused};
 ghost use Rattle.refusal.specs.declared.Company.TheVariants.{Alone};

@@ -1,4 +1,6 @@
 // Requests by what they ask: a case for each command, with the parts of the line that its row names.
+#![tactic(auto)]
+
 ghost use Rattle.std.specs.Prelude.{◌≡◌, ◌+◌, ◌*◌, IfSome};
 ghost use Rattle.request.specs.Asked.{command_of, meant};
 ghost use Rattle.request.specs.Reading.{Asks, asked_in};

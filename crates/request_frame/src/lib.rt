@@ -1,4 +1,6 @@
 // Requests on the line: written into given memory, searched for in a line, cut out of it.
+#![tactic(auto)]
+
 ghost use Rattle.std.specs.Prelude.{◌≡◌, ◌+◌, ◌≤◌, ◌∷◌, ◌++◌, length, take, drop, IfSome, if◌then◌else◌, Decides, MatchOption, nat_lt};
 ghost use Rattle.refusal.specs.Told.{answer, granted, refused};
 ghost use Rattle.refusal.specs.declared.Company.TheVariants.{Alone};

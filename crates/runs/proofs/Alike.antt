@@ -3,8 +3,8 @@ use Rattle.std.proofs.Common.{◌≡◌, ℕ, zero, suc, ◌-◌, ◌/◌, ◌%�
 use Rattle.converter.specs.Hearing.{ruled}
 use Rattle.device.specs.Life.{Life, Ring, fresh, held_in, held_number}
 use Rattle.device.specs.Rows.{data_of, held_by, is_events}
-use Rattle.log.proofs.Kept.{kept_number}
-use Rattle.log.specs.Reading.{sent_bytes, sent_count}
+use Rattle.ring_log.proofs.Kept.{kept_number}
+use Rattle.ring_log.specs.Reading.{sent_bytes, sent_count}
 use Rattle.records.specs.Records.{event_bytes, gap_bytes}
 use Rattle.records.specs.declared.Event.{Event}
 use Rattle.records.specs.declared.PowerGap.{PowerGap}

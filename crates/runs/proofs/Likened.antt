@@ -8,7 +8,7 @@ use Rattle.converter.specs.Calls.{no_room, outcome, Grant, short}
 use Rattle.converter.specs.Hearing.{Found, behind, carried, destination, in_row, judged, judged_for, moved_by, replied, reply_by, reply_length, result_by, ruled, standing_for}
 use Rattle.device.specs.Life.{Life, held_in, held_number}
 use Rattle.device.specs.Rows.{clears, data_of, events_after, gaps_after, held_at, held_for, is_events, mask_of, reads_log, setting_cell, state_bytes, time_after}
-use Rattle.log.specs.Reading.{sent_bytes}
+use Rattle.ring_log.specs.Reading.{sent_bytes}
 use Rattle.readings.specs.Readings.{masked}
 use Rattle.records.specs.Records.{event_bytes, gap_bytes}
 use Rattle.refusal.specs.Told.{Answer, granted, refused}

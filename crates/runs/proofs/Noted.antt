@@ -8,9 +8,9 @@ use Rattle.converter.specs.Calls.{Call, Grant, Hears, Outcome, Steps, advance, a
 use Rattle.converter.specs.Hearing.{Finds, Found, behind, destination, judged, judged_for, life_after, moved_by, replied, reply_by, reply_length, reply_to, result_by, result_to, ruled, standing_for, with_access}
 use Rattle.device.specs.Life.{Life, Ring, emptied, entered, fresh, held_in}
 use Rattle.device.specs.Rows.{changed, clears, data_of, events_after, gaps_after, held_by, is_events, obeyed, time_after}
-use Rattle.log.proofs.Kept.{kept_none, kept_step}
-use Rattle.log.specs.Logs.{newest}
-use Rattle.log.specs.Reading.{sent_bytes}
+use Rattle.ring_log.proofs.Kept.{kept_none, kept_step}
+use Rattle.ring_log.specs.Logs.{newest}
+use Rattle.ring_log.specs.Reading.{sent_bytes}
 use Rattle.records.specs.Reasons.{lawful}
 use Rattle.records.specs.Records.{event_at, event_bytes, gap_bytes}
 use Rattle.records.specs.declared.Event.{Event}

@@ -11,8 +11,8 @@ use Rattle.converter.specs.declared.noting.Note.{Note}
 use Rattle.converter.specs.declared.noting.Note.TheVariants.{Event as Noted, Gap}
 use Rattle.device.specs.Life.{Life, Ring, emptied, held_in, place_after}
 use Rattle.device.specs.Rows.{changed, clears, data_of, events_after, gaps_after, held_at, held_for, is_events, obeyed, reads_log}
-use Rattle.log.specs.Logs.{around}
-use Rattle.log.specs.Reading.{sent_bytes}
+use Rattle.ring_log.specs.Logs.{around}
+use Rattle.ring_log.specs.Reading.{sent_bytes}
 use Rattle.records.specs.Reasons.{lawful as sound}
 use Rattle.records.specs.Records.{event_bytes, gap_bytes}
 use Rattle.records.specs.declared.Event.{Event}

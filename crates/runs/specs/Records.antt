@@ -4,8 +4,8 @@ use Rattle.converter.specs.Calls.{Outcome, Steps, hear, heard, no_room}
 use Rattle.converter.specs.Hearing.{Found, judged}
 use Rattle.device.specs.Life.{Life, Ring, held_in}
 use Rattle.device.specs.Rows.{data_of, is_events}
-use Rattle.log.specs.Logs.{Kept, newest}
-use Rattle.log.specs.Reading.{sent_bytes}
+use Rattle.ring_log.specs.Logs.{Kept, newest}
+use Rattle.ring_log.specs.Reading.{sent_bytes}
 use Rattle.records.specs.Records.{event_bytes, gap_bytes}
 use Rattle.records.specs.declared.Event.{Event}
 use Rattle.records.specs.declared.PowerGap.{PowerGap}

@@ -1,4 +1,6 @@
 // Whole runs of a converter: calls one after another, from a fresh converter on.
+#![tactic(auto)]
+
 ghost use Rattle.std.specs.Prelude.{◌≡◌, replicate, Err};
 ghost use Rattle.refusal.specs.declared.Company.TheVariants.{Alone};
 ghost use Rattle.refusal.specs.declared.Refusal.TheVariants.{LittleMemory};

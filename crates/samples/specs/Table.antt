@@ -4,7 +4,7 @@ use Rattle.calendar.specs.Dates.{is_lawful}
 use Rattle.calendar.specs.Times.{Time, date_in, nine_bytes, synchronised}
 use Rattle.calendar.specs.declared.DateTime.{DateTime}
 use Rattle.calendar.specs.declared.Season.TheVariants.{Winter}
-use Rattle.log.specs.Logs.{newest, told_count, told_max}
+use Rattle.ring_log.specs.Logs.{newest, told_count, told_max}
 use Rattle.readings.specs.Readings.{masked}
 use Rattle.records.specs.Records.{event_bytes, gap_bytes}
 use Rattle.records.specs.declared.PowerGap.{PowerGap}

@@ -1,4 +1,6 @@
 // Samples worked out by hand, proved of the definitions that all contracts cite.
+#![tactic(auto)]
+
 ghost use Rattle.std.specs.Prelude.{◌≡◌, Some};
 ghost use Rattle.samples.specs.Table.{Masks, Table, last_date};
 

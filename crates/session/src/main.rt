@@ -1,4 +1,6 @@
 // Write windows from opening to their end: the frames that they put on the line, and what they refuse.
+#![tactic(auto)]
+
 mod refused;
 mod windows;
 

@@ -1,4 +1,6 @@
 // The converter's settings memory: 256 cells of one byte each.
+#![tactic(auto)]
+
 ghost use Rattle.std.specs.Prelude.{◌≡◌, ℕ};
 ghost use Rattle.store.specs.Cells.{holding, upd};
 

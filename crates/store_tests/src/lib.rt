@@ -1,4 +1,6 @@
 // Both stores on examples: one list of 300 writes against a plain array, and neighbouring cells.
+#![tactic(auto)]
+
 #[cfg(test)]
 mod tests {
     use std::process::Abort;

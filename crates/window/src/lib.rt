@@ -1,4 +1,6 @@
 // The station's write window: opened, perhaps permitted, and ended by a write or by closing.
+#![tactic(auto)]
+
 ghost use Rattle.std.specs.Prelude.{◌≡◌, true, false, ◌++◌, replicate};
 ghost use Rattle.refusal.specs.Told.{answer};
 ghost use Rattle.request_frame.specs.Requests.{request};

@@ -1,4 +1,6 @@
 // What programs print for people: refusals in words, bytes as pairs of digits.
+#![tactic(auto)]
+
 use refusal::Refusal;
 use std::fmt;
 

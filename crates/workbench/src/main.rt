@@ -1,4 +1,5 @@
 // The layers under the converter at work: dates for given seconds, a log that goes round, both stores.
+#![tactic(auto)]
 
 mod dates;
 mod rounds;

@@ -1,7 +1,7 @@
 // A log of power gaps that goes round.
-use log::Position;
-use log::reading::record_at;
-use log::ring::note_gap;
+use ring_log::Position;
+use ring_log::reading::record_at;
+use ring_log::ring::note_gap;
 use records::PowerGap;
 use refusal::Refusal;
 use std::io;
