@@ -5,6 +5,7 @@ mod asked;
 mod capture;
 mod found;
 
+use anyhow::anyhow;
 use capture::Capture;
 
 fn main(rt: HostRuntime) -> anyhow::Result<()> {
@@ -19,7 +20,7 @@ fn run(rt: &HostRuntime) -> anyhow::Result<()> {
         Capture::Whole(line) => line,
         Capture::BadText { number, fault } => {
             let message = format!(in rt.alloc(); "line {number}, {fault}")?;
-            return Err(message.into());
+            return Err(anyhow!(message));
         }
     };
     found::tell_all(rt, line.as_slice())?;

@@ -5,6 +5,8 @@ mod dates;
 mod rounds;
 mod stores;
 
+use anyhow::anyhow;
+
 fn main(rt: HostRuntime) -> anyhow::Result<()> {
     run(&rt)
 }
@@ -17,7 +19,7 @@ fn run(rt: &HostRuntime) -> anyhow::Result<()> {
         let message = format!(in rt.alloc();
             "line {number}: expected a number of seconds, 0 to 4294967295"
         )?;
-        return Err(message.into());
+        return Err(anyhow!(message));
     }
     rounds::tell_all(rt)?;
     stores::tell_all(rt)?;
