@@ -46,7 +46,7 @@ pub enum Destination {
 
 // For whom a frame with that address is, at a converter with that store.
 pub fn destination_of<S: Store>(store: &S, address: u16) -> Destination
-    ensures { result ≡ destination_of (cells store.now) address }
+    ensures { result ≡ destination_of (S.cells store.now) address }
 {
     if address == 0x00ff {
         return Destination::Broadcast;
@@ -122,7 +122,7 @@ fn is_past(request: &Request, held: u16) -> bool
 // Whether the stored password of its kind is the one tried.
 fn is_stored<S: Store>(store: &S, tried: &Tried) -> bool
     requires { length tried.now.bytes.now ≡ 4 }
-    ensures { result ≡ holds_four (cells store.now) (password_cell tried.now.kind) tried.now.bytes.now }
+    ensures { result ≡ holds_four (S.cells store.now) (password_cell tried.now.kind) tried.now.bytes.now }
 {
     same_cells(store, tried.kind.first_cell(), tried.bytes)
 }
@@ -130,7 +130,7 @@ fn is_stored<S: Store>(store: &S, tried: &Tried) -> bool
 // Whether the password that a request tries, if it tries one, is the stored one.
 fn is_right<S: Store>(store: &S, request: &Request) -> bool
     requires { Sized (meant request.now) }
-    ensures { result ≡ right (cells store.now) (meant request.now) }
+    ensures { result ≡ right (S.cells store.now) (meant request.now) }
 {
     match request.password() {
         None => true,
@@ -146,7 +146,7 @@ fn decided<S: Store>(
     held: u16,
 ) -> Result<(), Refusal>
     requires { Sized (meant request.now) }
-    ensures told { answer result ≡ verdict access.now (own (cells store.now)) held (right (cells store.now) (meant request.now)) (meant request.now) }
+    ensures told { answer result ≡ verdict access.now (own (S.cells store.now)) held (right (S.cells store.now) (meant request.now)) (meant request.now) }
     ensures numbered { OnOk result (Numbered (meant request.now)) }
     ensures numbered_read { OnOk result (NumberedRead (meant request.now)) }
 {
@@ -208,7 +208,7 @@ fn guarded<S: Store>(
     held: u16,
 ) -> Result<(), Refusal>
     requires { Sized (meant request.now) }
-    ensures told { answer result ≡ verdict access.old (own (cells store.now)) held (right (cells store.now) (meant request.now)) (meant request.now) }
+    ensures told { answer result ≡ verdict access.old (own (S.cells store.now)) held (right (S.cells store.now) (meant request.now)) (meant request.now) }
     ensures moves { access.new ≡ afterwards (answer result) access.old (meant request.now) }
     ensures numbered { OnOk result (Numbered (meant request.now)) }
     ensures numbered_read { OnOk result (NumberedRead (meant request.now)) }
@@ -231,7 +231,7 @@ pub fn decide<S: Store>(
     held: u16,
 ) -> Result<(), Refusal>
     requires { Sized (meant request.now) }
-    ensures told { answer result ≡ verdict access.old (own (cells store.now)) held (right (cells store.now) (meant request.now)) (meant request.now) }
+    ensures told { answer result ≡ verdict access.old (own (S.cells store.now)) held (right (S.cells store.now) (meant request.now)) (meant request.now) }
     ensures moves { access.new ≡ afterwards (answer result) access.old (meant request.now) }
     ensures numbered { OnOk result (Numbered (meant request.now)) }
     ensures numbered_read { OnOk result (NumberedRead (meant request.now)) }

@@ -44,7 +44,7 @@ pub fn as_wanted(item: Item, steps: &[Step], slots: &[Slot]) -> bool
 
 // Whether two converters hold the same byte in every cell.
 pub fn same_cells<S: Store, T: Store>(a: &Converter<S>, b: &Converter<T>) -> bool
-    ensures { Decides result (SameCells 256 (view S.Store.cells a.now [] []).cells (view T.Store.cells b.now [] []).cells) }
+    ensures { Decides result (SameCells 256 (view S.cells a.now [] []).cells (view T.cells b.now [] []).cells) }
 {
     for number in 0..256u16 {
         let cell = number as u8;

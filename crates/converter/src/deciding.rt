@@ -25,8 +25,8 @@ fn is_carried(command: u8) -> bool
 // Decides on a request by the row of its command.
 fn in_row<'a, S: Store>(inner: &mut Inner<S>, frame: &Frame<'a>) -> Result<Request<'a>, Refusal>
     requires { length frame.now.parameters.now ≡ 9 }
-    ensures told { (events : List Noted) (gaps : List Gap) → judgement result ≡ in_row (seen cells inner.old events gaps) (asked frame.now.command frame.now.parameters.now) }
-    ensures moves { (events : List Noted) (gaps : List Gap) → seen cells inner.new events gaps ≡ with_access (seen cells inner.old events gaps) (standing (judgement result) inner.old.access) }
+    ensures told { (events : List Noted) (gaps : List Gap) → judgement result ≡ in_row (seen S.cells inner.old events gaps) (asked frame.now.command frame.now.parameters.now) }
+    ensures moves { (events : List Noted) (gaps : List Gap) → seen S.cells inner.new events gaps ≡ with_access (seen S.cells inner.old events gaps) (standing (judgement result) inner.old.access) }
     ensures sized { IfOk result (λ q. Sized (meant q)) }
     ensures numbered { IfOk result (λ q. Numbered (meant q)) }
     ensures numbered_read { IfOk result (λ q. NumberedRead (meant q)) }
@@ -51,8 +51,8 @@ pub(crate) fn judge<'a, S: Store>(
     frame: &Frame<'a>,
 ) -> Result<Request<'a>, Refusal>
     requires { length frame.now.parameters.now ≡ 9 }
-    ensures told { (events : List Noted) (gaps : List Gap) → judgement result ≡ judged_for (seen cells inner.old events gaps) destination frame.now.command frame.now.parameters.now }
-    ensures moves { (events : List Noted) (gaps : List Gap) → seen cells inner.new events gaps ≡ with_access (seen cells inner.old events gaps) (standing_for destination (judgement result) inner.old.access) }
+    ensures told { (events : List Noted) (gaps : List Gap) → judgement result ≡ judged_for (seen S.cells inner.old events gaps) destination frame.now.command frame.now.parameters.now }
+    ensures moves { (events : List Noted) (gaps : List Gap) → seen S.cells inner.new events gaps ≡ with_access (seen S.cells inner.old events gaps) (standing_for destination (judgement result) inner.old.access) }
     ensures sized { IfOk result (λ q. Sized (meant q)) }
     ensures numbered { IfOk result (λ q. Numbered (meant q)) }
     ensures numbered_read { IfOk result (λ q. NumberedRead (meant q)) }

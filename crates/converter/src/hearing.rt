@@ -57,12 +57,12 @@ fn act<S: Store>(
     requires sized { Sized (meant request.now) }
     requires numbered { Numbered (meant request.now) }
     requires numbered_read { NumberedRead (meant request.now) }
-    requires events { (seen cells inner.old events.now gaps.now).events.volume ≤ length events.now }
-    requires gaps { (seen cells inner.old events.now gaps.now).gaps.volume ≤ length gaps.now }
+    requires events { (seen S.cells inner.old events.now gaps.now).events.volume ≤ length events.now }
+    requires gaps { (seen S.cells inner.old events.now gaps.now).gaps.volume ≤ length gaps.now }
     requires room { 295 ≤ length reply.old }
-    ensures obeyed { (es : List Noted) (gs : List Gap) → seen cells inner.new es gs ≡ obeyed (seen cells inner.old es gs) (meant request.now) }
-    ensures long { result ≡ reply_length destination (data_of (seen cells inner.old events.now gaps.now) (meant request.now)) }
-    ensures written { reply.new ≡ replied destination address (data_of (seen cells inner.old events.now gaps.now) (meant request.now)) reply.old }
+    ensures obeyed { (es : List Noted) (gs : List Gap) → seen S.cells inner.new es gs ≡ obeyed (seen S.cells inner.old es gs) (meant request.now) }
+    ensures long { result ≡ reply_length destination (data_of (seen S.cells inner.old events.now gaps.now) (meant request.now)) }
+    ensures written { reply.new ≡ replied destination address (data_of (seen S.cells inner.old events.now gaps.now) (meant request.now)) reply.old }
 {
     let mut payload = [0u8; 251];
     let length = inner.put_data(request, events, gaps, &mut payload);
@@ -73,7 +73,7 @@ fn act<S: Store>(
 impl<S: Store> Converter<S> {
     // Whether the memories that are lent suffice for hearing.
     fn has_room(&self, reply: usize, events: usize, gaps: usize) -> bool
-        ensures { not result ≡ (nat_lt reply 295 || (nat_lt events (view cells self.now [] []).events.volume || nat_lt gaps (view cells self.now [] []).gaps.volume)) }
+        ensures { not result ≡ (nat_lt reply 295 || (nat_lt events (view S.cells self.now [] []).events.volume || nat_lt gaps (view S.cells self.now [] []).gaps.volume)) }
     {
         reply >= REPLY_BYTES && enough(&self.inner.positions, events, gaps)
     }
@@ -86,7 +86,7 @@ impl<S: Store> Converter<S> {
         events: &[Event],
         gaps: &[PowerGap],
     ) -> Result<Heard, Unheard>
-        ensures { Steps (view cells self.old events.now gaps.now) (hear line.now reply.old (length events.now) (length gaps.now)) (outcome (view cells self.new events.now gaps.now) (of_hearing (hearing result)) reply.new) (view cells self.new events.now gaps.now) }
+        ensures { Steps (view S.cells self.old events.now gaps.now) (hear line.now reply.old (length events.now) (length gaps.now)) (outcome (view S.cells self.new events.now gaps.now) (of_hearing (hearing result)) reply.new) (view S.cells self.new events.now gaps.now) }
     {
         if !self.has_room(reply.len(), events.len(), gaps.len()) {
             return Err(unheard(Refusal::LittleMemory, line.len(), 0));

@@ -41,7 +41,7 @@ pub struct Unheard {
 impl<S: Store> Converter<S> {
     // A converter that nothing happened to yet; a volume above 32,767 counts as 32,767.
     pub fn start(store: S, volume: usize, gap_volume: usize) -> Converter<S>
-        ensures { (events : List Noted) (gaps : List Gap) → view cells result events gaps ≡ fresh (cells store) volume gap_volume events gaps }
+        ensures { (events : List Noted) (gaps : List Gap) → view S.cells result events gaps ≡ fresh (S.cells store) volume gap_volume events gaps }
     {
         Converter {
             inner: Inner::start(store, volume, gap_volume),

@@ -25,17 +25,17 @@ pub struct Standing {
 impl<S: Store> Converter<S> {
     // The byte of a cell.
     pub fn cell(&self, cell: u8) -> u8
-        ensures { (events : List Noted) (gaps : List Gap) → result ≡ (view cells self.now events gaps).cells cell }
+        ensures { (events : List Noted) (gaps : List Gap) → result ≡ (view S.cells self.now events gaps).cells cell }
     {
         self.inner.store.read(cell)
     }
 
     // What stands, the clock, and where the logs stand.
     pub fn stands(&self) -> Standing
-        ensures access { (events : List Noted) (gaps : List Gap) → result.access ≡ (view cells self.now events gaps).access }
-        ensures time { (events : List Noted) (gaps : List Gap) → shown result.clock ≡ (view cells self.now events gaps).time }
-        ensures events { (events : List Noted) (gaps : List Gap) → ring_of result.events events ≡ (view cells self.now events gaps).events }
-        ensures gaps { (events : List Noted) (gaps : List Gap) → ring_of result.gaps gaps ≡ (view cells self.now events gaps).gaps }
+        ensures access { (events : List Noted) (gaps : List Gap) → result.access ≡ (view S.cells self.now events gaps).access }
+        ensures time { (events : List Noted) (gaps : List Gap) → shown result.clock ≡ (view S.cells self.now events gaps).time }
+        ensures events { (events : List Noted) (gaps : List Gap) → ring_of result.events events ≡ (view S.cells self.now events gaps).events }
+        ensures gaps { (events : List Noted) (gaps : List Gap) → ring_of result.gaps gaps ≡ (view S.cells self.now events gaps).gaps }
     {
         let (events, gaps) = both(&self.inner.positions);
         Standing {

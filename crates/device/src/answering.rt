@@ -29,7 +29,7 @@ pub(crate) fn put(out: &mut [u8], bytes: &[u8]) -> usize
 fn put_span<S: Store>(store: &S, first: u8, n: usize, out: &mut [u8]) -> usize
     requires cells { first + n ≤ 256 }
     requires room { n ≤ length out.old }
-    ensures { Puts (span (cells store.now) first n) result out.old out.new }
+    ensures { Puts (span (S.cells store.now) first n) result out.old out.new }
 {
     read_cells(store, first, &mut out[0..n]);
     n
@@ -58,7 +58,7 @@ fn setting_cell(number: u8, which: u8) -> u8
 
 // The device configuration.
 fn configuration_of<S: Store>(store: &S) -> [u8; 9]
-    ensures { result ≡ configuration (cells store.now) }
+    ensures { result ≡ configuration (S.cells store.now) }
 {
     let inputs = store.read(19);
     let debounce = store.read(20);
@@ -78,7 +78,7 @@ fn configuration_of<S: Store>(store: &S) -> [u8; 9]
 impl<S: Store> Inner<S> {
     // How many records are held in the log of which a request asks records.
     pub fn held_for(&self, request: &Request) -> u16
-        ensures { (events : List Noted) (gaps : List Gap) → result ≡ held_for (seen cells self.now events gaps) (meant request.now) }
+        ensures { (events : List Noted) (gaps : List Gap) → result ≡ held_for (seen S.cells self.now events gaps) (meant request.now) }
     {
         match *request {
             Request::LogRecords { log, .. } => held_by(&self.positions, log),
@@ -96,10 +96,10 @@ impl<S: Store> Inner<S> {
     ) -> usize
         requires sized { Sized (meant request.now) }
         requires numbered_read { NumberedRead (meant request.now) }
-        requires events { (seen cells self.now events.now gaps.now).events.volume ≤ length events.now }
-        requires gaps { (seen cells self.now events.now gaps.now).gaps.volume ≤ length gaps.now }
+        requires events { (seen S.cells self.now events.now gaps.now).events.volume ≤ length events.now }
+        requires gaps { (seen S.cells self.now events.now gaps.now).gaps.volume ≤ length gaps.now }
         requires room { 251 ≤ length out.old }
-        ensures puts { Puts (data_of (seen cells self.now events.now gaps.now) (meant request.now)) result out.old out.new }
+        ensures puts { Puts (data_of (seen S.cells self.now events.now gaps.now) (meant request.now)) result out.old out.new }
         ensures most { result ≤ 251 }
     {
         match *request {

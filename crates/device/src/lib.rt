@@ -28,7 +28,7 @@ pub struct Inner<S> {
 impl<S: Store> Inner<S> {
     // A converter over a store that nothing happened to yet, with the volumes of both logs.
     pub fn start(store: S, volume: usize, gap_volume: usize) -> Inner<S>
-        ensures { (events : List Noted) (gaps : List Gap) → seen cells result events gaps ≡ fresh (cells store) volume gap_volume events gaps }
+        ensures { (events : List Noted) (gaps : List Gap) → seen S.cells result events gaps ≡ fresh (S.cells store) volume gap_volume events gaps }
     {
         Inner {
             store,

@@ -19,7 +19,7 @@ impl<S: Store> Inner<S> {
     pub fn obey(&mut self, request: &Request)
         requires sized { Sized (meant request.now) }
         requires numbered { Numbered (meant request.now) }
-        ensures { (events : List Noted) (gaps : List Gap) → seen cells self.new events gaps ≡ obeyed (seen cells self.old events gaps) (meant request.now) }
+        ensures { (events : List Noted) (gaps : List Gap) → seen S.cells self.new events gaps ≡ obeyed (seen S.cells self.old events gaps) (meant request.now) }
     {
         request.write_to(&mut self.store);
         match *request {

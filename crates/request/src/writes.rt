@@ -25,7 +25,7 @@ impl PasswordKind {
 // Gives bytes to neighbouring cells.
 fn put_cells<S: Store>(store: &mut S, first: u8, bytes: &[u8])
     requires { first + length bytes.now ≤ 256 }
-    ensures { (k : ℕ) → cells store.new k ≡ unwrap_or (put first bytes.now k) (cells store.old k) }
+    ensures { (k : ℕ) → S.cells store.new k ≡ unwrap_or (put first bytes.now k) (S.cells store.old k) }
 {
     write_cells(store, first, bytes);
 }
@@ -33,7 +33,7 @@ fn put_cells<S: Store>(store: &mut S, first: u8, bytes: &[u8])
 // The event mask and the mask of inputs where bit 0x01 brings them.
 fn put_masks<S: Store>(store: &mut S, bits: u8, events: &[u8], inputs: u8)
     requires { length events.now ≡ 2 }
-    ensures { (k : ℕ) → cells store.new k ≡ unwrap_or (masks_given bits events.now inputs k) (cells store.old k) }
+    ensures { (k : ℕ) → S.cells store.new k ≡ unwrap_or (masks_given bits events.now inputs k) (S.cells store.old k) }
 {
     if bits % 2 == 1 {
         put_cells(store, 17, &[events[0], events[1], inputs]);
@@ -42,7 +42,7 @@ fn put_masks<S: Store>(store: &mut S, bits: u8, events: &[u8], inputs: u8)
 
 // The debounce time where bit 0x10 brings it.
 fn put_debounce<S: Store>(store: &mut S, bits: u8, debounce: u8)
-    ensures { (k : ℕ) → cells store.new k ≡ unwrap_or (debounce_given bits debounce k) (cells store.old k) }
+    ensures { (k : ℕ) → S.cells store.new k ≡ unwrap_or (debounce_given bits debounce k) (S.cells store.old k) }
 {
     if bits / 16 % 2 == 1 {
         put_cells(store, 20, &[if debounce == 0 { 6 } else { debounce }]);
@@ -54,7 +54,7 @@ impl Request<'_> {
     pub fn write_to<S: Store>(&self, store: &mut S)
         requires sized { Sized (meant self.now) }
         requires numbered { Numbered (meant self.now) }
-        ensures { (k : ℕ) → cells store.new k ≡ unwrap_or (gives (meant self.now) k) (cells store.old k) }
+        ensures { (k : ℕ) → S.cells store.new k ≡ unwrap_or (gives (meant self.now) k) (S.cells store.old k) }
     {
         match *self {
             Request::ChangeAddress { new, .. } => put_cells(store, 0, new),

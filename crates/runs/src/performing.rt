@@ -44,7 +44,7 @@ fn hear_lent<S: Store>(
     events: &[Event],
     gaps: &[PowerGap],
 ) -> Result<Heard, Unheard>
-    ensures { Steps (view cells converter.old events.now gaps.now) (hear line.now reply.old lent.events lent.gaps) (outcome (view cells converter.new events.now gaps.now) (of_hearing (hearing result)) reply.new) (view cells converter.new events.now gaps.now) }
+    ensures { Steps (view S.cells converter.old events.now gaps.now) (hear line.now reply.old lent.events lent.gaps) (outcome (view S.cells converter.new events.now gaps.now) (of_hearing (hearing result)) reply.new) (view S.cells converter.new events.now gaps.now) }
 {
     let e = lent.events.min(events.len());
     let g = lent.gaps.min(gaps.len());
@@ -59,7 +59,7 @@ fn note_lent<S: Store>(
     events: &mut [Event],
     gaps: &mut [PowerGap],
 ) -> Result<(), Refusal>
-    ensures { Steps (view cells converter.old events.old gaps.old) (note_call note lent.events lent.gaps) (outcome (view cells converter.new events.new gaps.new) (of_done (answer result)) []) (view cells converter.new events.new gaps.new) }
+    ensures { Steps (view S.cells converter.old events.old gaps.old) (note_call note lent.events lent.gaps) (outcome (view S.cells converter.new events.new gaps.new) (of_done (answer result)) []) (view S.cells converter.new events.new gaps.new) }
 {
     let e = lent.events.min(events.len());
     let g = lent.gaps.min(gaps.len());
@@ -74,7 +74,7 @@ pub(crate) fn perform<S: Store>(
     events: &mut [Event],
     gaps: &mut [PowerGap],
 ) -> Slot
-    ensures steps { Steps (view cells converter.old events.old gaps.old) (call_of call.now slot) (outcome_of call.now result events.new gaps.new) (view cells converter.new events.new gaps.new) }
+    ensures steps { Steps (view S.cells converter.old events.old gaps.old) (call_of call.now slot) (outcome_of call.now result events.new gaps.new) (view S.cells converter.new events.new gaps.new) }
     ensures rest { rest_of call.now result ≡ rest_of call.now slot }
 {
     let mut reply = slot.reply;

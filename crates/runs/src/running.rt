@@ -20,7 +20,7 @@ fn run<S: Store>(
     events: &mut [Event],
     gaps: &mut [PowerGap],
 )
-    ensures ran { (history : List Turn) × MadeBy calls.now slots.old slots.new history × Ran (view cells converter.old events.old gaps.old) history (view cells converter.new events.new gaps.new) }
+    ensures ran { (history : List Turn) × MadeBy calls.now slots.old slots.new history × Ran (view S.cells converter.old events.old gaps.old) history (view S.cells converter.new events.new gaps.new) }
 {
     let n = calls.len().min(slots.len());
     for i in 0..n {
@@ -39,10 +39,10 @@ pub fn live<S: Store>(
     events: &mut [Event],
     gaps: &mut [PowerGap],
 ) -> Converter<S>
-    ensures ran { (history : List Turn) × MadeBy calls.now slots.old slots.new history × Lives (start_of (cells store) volume gap_volume events.old gaps.old) history (view cells result events.new gaps.new) }
-    ensures settings { SettingsFollow (start_of (cells store) volume gap_volume events.old gaps.old) (view cells result events.new gaps.new) }
-    ensures passwords { PasswordsHide (start_of (cells store) volume gap_volume events.old gaps.old) (view cells result events.new gaps.new) }
-    ensures records { RecordsShow (start_of (cells store) volume gap_volume events.old gaps.old) (view cells result events.new gaps.new) }
+    ensures ran { (history : List Turn) × MadeBy calls.now slots.old slots.new history × Lives (start_of (S.cells store) volume gap_volume events.old gaps.old) history (view S.cells result events.new gaps.new) }
+    ensures settings { SettingsFollow (start_of (S.cells store) volume gap_volume events.old gaps.old) (view S.cells result events.new gaps.new) }
+    ensures passwords { PasswordsHide (start_of (S.cells store) volume gap_volume events.old gaps.old) (view S.cells result events.new gaps.new) }
+    ensures records { RecordsShow (start_of (S.cells store) volume gap_volume events.old gaps.old) (view S.cells result events.new gaps.new) }
     ensures windows { Windows }
 {
     let mut converter = Converter::start(store, volume, gap_volume);

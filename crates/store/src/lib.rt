@@ -25,5 +25,5 @@ pub trait Store {
 // A store that is made from the bytes of its cells, cell 0 first.
 pub trait Filled: Store + Sized {
     fn filled(bytes: [u8; 256]) -> Self
-        ensures { (k : ℕ) → Self.Store.cells result k ≡ holding bytes k };
+        ensures { (k : ℕ) → Self.cells result k ≡ holding bytes k };
 }

@@ -7,7 +7,7 @@ use crate::Store;
 // Fills `out` with the cells from `first` on.
 pub fn read_cells<S: Store>(store: &S, first: u8, out: &mut [u8])
     requires { first + length out.old ≤ 256 }
-    ensures filled { out.new ≡ span (cells store.now) first (length out.old) }
+    ensures filled { out.new ≡ span (S.cells store.now) first (length out.old) }
     ensures fit { (i : ℕ) → slice_index out.new i < 256 }
 {
     for (i, byte) in out.iter_mut().enumerate() {
@@ -18,8 +18,8 @@ pub fn read_cells<S: Store>(store: &S, first: u8, out: &mut [u8])
 // Writes `bytes` to the cells from `first` on.
 pub fn write_cells<S: Store>(store: &mut S, first: u8, bytes: &[u8])
     requires { first + length bytes.now ≤ 256 }
-    ensures written { (k : ℕ) → cells store.new k ≡ laid first bytes.now (cells store.old) k }
-    ensures held { Hold (cells store.new) first bytes.now }
+    ensures written { (k : ℕ) → S.cells store.new k ≡ laid first bytes.now (S.cells store.old) k }
+    ensures held { Hold (S.cells store.new) first bytes.now }
 {
     for (i, byte) in bytes.iter().enumerate() {
         store.write(first + i as u8, *byte);
@@ -30,7 +30,7 @@ pub fn write_cells<S: Store>(store: &mut S, first: u8, bytes: &[u8])
 // tell how many of them are right.
 pub fn same_cells<S: Store>(store: &S, first: u8, bytes: &[u8]) -> bool
     requires { first + length bytes.now ≤ 256 }
-    ensures { Decides result (Hold (cells store.now) first bytes.now) }
+    ensures { Decides result (Hold (S.cells store.now) first bytes.now) }
 {
     let mut difference = 0;
     for (i, byte) in bytes.iter().enumerate() {

@@ -10,6 +10,6 @@ pub returns : goal.returns
 returns c =
     let n : ℕ = length c.args.bytes.now - 2 in
     let from : n - 0 ≡ n = omega arith in
-    let word = c.check-word.ensures ∙ ap (λ (k : ℕ). check_word (take k c.args.bytes.now)) from in
-    decides c.args.bytes.now n c.from.result c.from-2.result c.check-word.result
+    let word = c.check_word.ensures ∙ ap (λ (k : ℕ). check_word (take k c.args.bytes.now)) from in
+    decides c.args.bytes.now n c.from.result c.from-2.result c.check_word.result
     (omega arith) word c.from.ensures c.from-2.ensures (search rules)

@@ -8,6 +8,6 @@ returns c =
     let bytes = c.covered-covered.result in
     let long : length bytes + 2 ≡ 16 = search rules in
     let head =
-    behind_head c.args.out.now c.put-block.new.out (sealed bytes) (length bytes + 2) c.requires long
-    c.put-block.ensures.written in
+    behind_head c.args.out.now c.put_block.new.out (sealed bytes) (length bytes + 2) c.requires long
+    c.put_block.ensures.written in
     cc

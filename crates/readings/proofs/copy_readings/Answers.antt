@@ -39,9 +39,9 @@ loop-n-preserved c =
     let room : 175 ≤ length c.loop-n.out = search rules in
     elim c.if-bits-eq1.branch [
       | then-bits-eq1 w ↦
-          let part = w.copy-from-slice.ensures.after ∙ ap (λ (k : ℕ). take k (drop c.loop-n.from c.args.readings.now)) out_of in
+          let part = w.copy_from_slice.ensures.after ∙ ap (λ (k : ℕ). take k (drop c.loop-n.from c.args.readings.now)) out_of in
           same
-          (copied n (c.loop-n.at + n - c.loop-n.at) left w.copy-from-slice.new.self s w.if-bits-eq1.true into part (search rules) room)
+          (copied n (c.loop-n.at + n - c.loop-n.at) left w.copy_from_slice.new.self s w.if-bits-eq1.true into part (search rules) room)
           w.at-is w.out-is
       | else-bits-eq1 w ↦ same (passed n left s w.if-bits-eq1.false) w.at-is w.out-is
     ]

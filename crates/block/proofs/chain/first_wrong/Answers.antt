@@ -7,7 +7,7 @@ use Rattle.std.specs.Iterator.Adapters.{enumerate_source}
 
 pub loop-k-init : goal.loop-k-init
 loop-k-init c =
-    let e = c.into-iter-k-iterator.ensures.into-iter-gives in
+    let e = c.into_iter-k-iterator.ensures.into_iter_gives in
     let f = c.enumerate-k-items.ensures.source in
     let z = c.enumerate-k-items.ensures.count in
     let s = c.chunks.ensures.size in
@@ -22,7 +22,7 @@ returns-then-not-is-block c =
 pub loop-k-preserved : goal.loop-k-preserved
 loop-k-preserved c =
     let steps = c.in-Some.ensures.steps in
-    one_more_checked c.loop-k.invariant steps.0.1 (c.is-block.ensures.0 c.if-not-is-block.false) steps.0.0 steps.2
+    one_more_checked c.loop-k.invariant steps.0.1 (c.is_block.ensures.0 c.if-not-is_block.false) steps.0.0 steps.2
 
 pub returns : goal.returns
 returns c = all_checked c.loop-k.invariant c.in-None.ensures.steps.0.1.0

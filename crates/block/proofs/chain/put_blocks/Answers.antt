@@ -29,12 +29,12 @@ loop-part-preserved c =
     let part = c.in-Some.part.now in
     let rest = chunks_rest c.next.new.self in
     let s = coming part rest c.loop-part.invariant.1 c.loop-part.invariant.0 c.in-Some.ensures.steps.1 in
-    let long : c.put-block-at.result ≡ length (sealed part) = c.put-block-at.ensures.long ∙ sym (length-sealed part) in
-    let n = c.put-block-at.ensures.long in
-    let w = c.put-block-at.ensures.written in (
+    let long : c.put_block-at.result ≡ length (sealed part) = c.put_block-at.ensures.long ∙ sym (length-sealed part) in
+    let n = c.put_block-at.ensures.long in
+    let w = c.put_block-at.ensures.written in (
       c.in-Some.ensures.steps.0 ∙ c.loop-part.invariant.0,
-      step c.loop-part.at c.put-block-at.result c.loop-part.out c.args.out.now (chained c.args.bytes.now) (sealed part)
-          (chained rest) c.put-block-at.new.out s long (omega (arith, c.requires)) cc,
+      step c.loop-part.at c.put_block-at.result c.loop-part.out c.args.out.now (chained c.args.bytes.now) (sealed part)
+          (chained rest) c.put_block-at.new.out s long (omega (arith, c.requires)) cc,
     )
 
 pub returns : goal.returns

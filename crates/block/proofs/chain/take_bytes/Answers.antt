@@ -5,7 +5,7 @@ use Rattle.std.specs.Slice.Iter.{chunks_rest}
 
 pub loop-block-init : goal.loop-block-init
 loop-block-init c =
-    let e = c.into-iter-block-iterator.ensures.into-iter-gives in
+    let e = c.into_iter-block-iterator.ensures.into_iter_gives in
     let s = c.chunks-block-items.ensures.size in
     let r = c.chunks-block-items.ensures.rest in
     (cc, λ bytes is. record { blocks_left = cc; written = refl; within = omega arith })
@@ -47,7 +47,7 @@ loop-block-preserved c =
       c.in-Some.ensures.steps.0 ∙ c.loop-block.invariant.0,
       λ bytes is.
           one_more_taken (c.loop-block.invariant.1 bytes is) c.loop-block.invariant.0 c.in-Some.block.now (chunks_rest c.next.new.self)
-          c.copy-from-slice.new.self n (at + n - at) c.in-Some.ensures.steps.1 refl count c.copy-from-slice.ensures.after,
+          c.copy_from_slice.new.self n (at + n - at) c.in-Some.ensures.steps.1 refl count c.copy_from_slice.ensures.after,
     )
 
 pub returns : goal.returns
