@@ -2,7 +2,7 @@ use Rattle.std.proofs.Common.{◌≡◌, ℕ, ◌+◌, ◌*◌, List, [], ◌∷
 use Rattle.hex_text.specs.declared.Fault.TheVariants.{HalfPair}
 use Rattle.hex_text.specs.Text.{says}
 use Rattle.hex_text.proofs.read_line.Goals as goal
-use Rattle.hex_text.proofs.read_line.Goals.{in-None-Blank, in-None-Digit, in-Some-Digit+in-ok-push}
+use Rattle.hex_text.proofs.read_line.Goals.{in-None-Blank, in-None-Digit, in-Some-Digit+in_ok-push-in-Some-Digit}
 use Rattle.hex_text.proofs.Steps.{after_none, at_end, at_high, bad, commented, one_more, start}
 use Rattle.std.proofs.lemmas.Result.{err_from_is_err_and}
 
@@ -17,13 +17,13 @@ pub returns-in-None-Other : goal.returns-in-None-Other
 returns-in-None-Other c =
     bad (at_high c.loop-i.invariant c.in-None-Other.is-0) c.loop-i-test.true (sym c.in-None-Other.is-1 ∙ c.classify.ensures.value) refl
 
-pub overflow-mul-h : goal.overflow-mul-h
-overflow-mul-h c =
+pub overflow_mul-h : goal.overflow_mul-h
+overflow_mul-h c =
     let high = (at_high c.loop-i.invariant c.in-Some-Digit.is-0).small in
     search rules
 
-pub overflow-add-h : goal.overflow-add-h
-overflow-add-h c =
+pub overflow_add-h : goal.overflow_add-h
+overflow_add-h c =
     let high = (at_high c.loop-i.invariant c.in-Some-Digit.is-0).small in
     let low = c.in-Some-Digit.ensures.bound in
     search rules
@@ -54,10 +54,10 @@ loop-i-preserved c =
           (one_more (at_high c.loop-i.invariant w.in-None-Digit.is-0) [] c.loop-i-test.true w.in-None-Digit.ensures.value
           (after_none _) (ap vec_items w.out-is ∙ sym (append-nil items)) w.in-None-Digit.ensures.bound)
           (sym w.high-is)
-      | in-Some-Digit+in-ok-push w ↦
+      | in-Some-Digit+in_ok-push-in-Some-Digit w ↦
           at_high
           (one_more (at_high c.loop-i.invariant w.in-Some-Digit.is-0) ((16 * w.in-Some-Digit.h + w.in-Some-Digit.d) ∷ []) c.loop-i-test.true
-          w.in-Some-Digit.ensures.value refl (ap vec_items w.out-is ∙ w.in-ok-push.ensures.items) tt)
+          w.in-Some-Digit.ensures.value refl (ap vec_items w.out-is ∙ w.in_ok-push-in-Some-Digit.ensures.items) tt)
           (sym w.high-is)
     ]
 
@@ -74,7 +74,7 @@ returns-in-Some c =
     let end : c.loop-i.i ≡ length c.args.text.now = omega arith in
     (at_end so_far c.loop-i-test.false ∙ ap (λ (n : ℕ). Err (HalfPair (n + 1))) end, (so_far.done, so_far.put))
 
-pub returns-in-err-push : goal.returns-in-err-push
-returns-in-err-push c =
-    let p = err_from_is_err_and c.from-residual.result c.from-residual.ensures.1 in
-    rw (p.1, p.2) (c.loop-i.invariant.done, c.in-err-push.ensures.items ∙ c.loop-i.invariant.put)
+pub returns-in_err-push-in-Some-Digit : goal.returns-in_err-push-in-Some-Digit
+returns-in_err-push-in-Some-Digit c =
+    let p = err_from_is_err_and c.from_residual.result c.from_residual.ensures.1 in
+    rw (p.1, p.2) (c.loop-i.invariant.done, c.in_err-push-in-Some-Digit.ensures.items ∙ c.loop-i.invariant.put)

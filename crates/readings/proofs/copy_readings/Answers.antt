@@ -22,11 +22,11 @@ at_end : {bits from at i : ℕ} {readings out entry whole : List ℕ} → Copied
 at_end {bits} {from} {at} {i} {readings} {out} {entry} {whole} s h =
     subst (λ (l : List ℕ). Copied bits from at l readings out entry whole) (drop_all i lengths h) s
 
-pub slice-bounds-copy-from-slice-end : goal.slice-bounds-copy-from-slice-end
-slice-bounds-copy-from-slice-end c = let end = next-end c.loop-n.invariant c.loop-n-test.true in search rules
+pub slice_bounds-copy_from_slice-end : goal.slice_bounds-copy_from_slice-end
+slice_bounds-copy_from_slice-end c = let end = next-end c.loop-n.invariant c.loop-n-test.true in search rules
 
-pub slice-bounds-copy-from-slice-end-then-bits-eq1 : goal.slice-bounds-copy-from-slice-end-then-bits-eq1
-slice-bounds-copy-from-slice-end-then-bits-eq1 c = let end = next-end c.loop-n.invariant c.loop-n-test.true in search rules
+pub slice_bounds-copy_from_slice-end-then-bits-eq1 : goal.slice_bounds-copy_from_slice-end-then-bits-eq1
+slice_bounds-copy_from_slice-end-then-bits-eq1 c = let end = next-end c.loop-n.invariant c.loop-n-test.true in search rules
 
 pub loop-n-preserved : goal.loop-n-preserved
 loop-n-preserved c =

@@ -9,4 +9,4 @@ returns c =
     let from : length first - 0 ≡ length first = omega arith in
     let rest : drop (length first - 0) zeros ≡ replicate (10 - length first) 0 =
     ap (λ (n : ℕ). drop n zeros) from ∙ drop-replicate (length first) 10 0 in
-    ap (λ (l : List ℕ). l ++ drop (length first - 0) zeros) c.copy-from-slice.ensures.after ∙ ap (λ (l : List ℕ). first ++ l) rest
+    ap (λ (l : List ℕ). l ++ drop (length first - 0) zeros) c.copy_from_slice.ensures.after ∙ ap (λ (l : List ℕ). first ++ l) rest

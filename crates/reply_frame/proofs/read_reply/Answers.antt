@@ -5,15 +5,15 @@ use Rattle.reply_frame.proofs.Whole.{at_address, found, others_fit, put_together
 use Rattle.std.proofs.lemmas.List.{take_rest}
 use Rattle.std.proofs.lemmas.Bool.{both_ways}
 
-pub returns-then-not-is-shaped : goal.returns-then-not-is-shaped
-returns-then-not-is-shaped c =
-    let no = sym c.is-shaped.ensures ∙ c.if-not-is-shaped.true in
+pub returns-then-not-is_shaped : goal.returns-then-not-is_shaped
+returns-then-not-is_shaped c =
+    let no = sym c.is_shaped.ensures ∙ c.if-not-is_shaped.true in
     record { reads = (inl (refl, no), refl); gives_back = λ a d r _. absurd (both_ways _ no (tells r).has_shape) }
 
 pub returns-in-Some : goal.returns-in-Some
 returns-in-Some c =
     let bytes : List ℕ = c.args.bytes.now in
-    let yes = sym c.is-shaped.ensures ∙ c.if-not-is-shaped.false in
+    let yes = sym c.is_shaped.ensures ∙ c.if-not-is_shaped.false in
     let W : List ℕ → Type 0 = λ l. FirstWrong l c.in-Some.block in
     let wrong : FirstWrong (drop 2 bytes) c.in-Some.block = subst W (take_rest bytes 2) c.in-Some.ensures in
     record {
@@ -23,31 +23,31 @@ returns-in-Some c =
 
 pub returns-then-payload-length : goal.returns-then-payload-length
 returns-then-payload-length c =
-    let yes = sym c.is-shaped.ensures ∙ c.if-not-is-shaped.false in
-    let right : AllRight (drop 2 c.args.bytes.now) = subst AllRight (take_rest c.args.bytes.now 2) c.in-default.ensures in
+    let yes = sym c.is_shaped.ensures ∙ c.if-not-is_shaped.false in
+    let right : AllRight (drop 2 c.args.bytes.now) = subst AllRight (take_rest c.args.bytes.now 2) c.in_default.ensures in
     record {
       reads = (inr (inr (refl, yes, right, c.if-payload-length.true)), refl);
       gives_back = λ a d r room. absurd (omega (arith, c.if-payload-length.true, (tells r).count));
     }
 
-pub take-bytes-requires : goal.take-bytes-requires
-take-bytes-requires c =
+pub take_bytes-requires : goal.take_bytes-requires
+take_bytes-requires c =
     let bytes : List ℕ = c.args.bytes.now in
-    let f = found bytes (sym c.is-shaped.ensures ∙ c.if-not-is-shaped.false) c.in-default.ensures c.type-inv.bytes in (
+    let f = found bytes (sym c.is_shaped.ensures ∙ c.if-not-is_shaped.false) c.in_default.ensures c.type_inv.bytes in (
       drop 10 f.payload,
       take_rest bytes 18 ∙ f.others,
-      others_fit f c.args.payload.now c.copy-from-slice.new.self c.if-payload-length.false c.copy-from-slice.ensures.after,
+      others_fit f c.args.payload.now c.copy_from_slice.new.self c.if-payload-length.false c.copy_from_slice.ensures.after,
     )
 
 pub returns : goal.returns
 returns c =
     let bytes : List ℕ = c.args.bytes.now in
     let before : List ℕ = c.args.payload.now in
-    let f = found bytes (sym c.is-shaped.ensures ∙ c.if-not-is-shaped.false) c.in-default.ensures c.type-inv.bytes in
+    let f = found bytes (sym c.is_shaped.ensures ∙ c.if-not-is_shaped.false) c.in_default.ensures c.type_inv.bytes in
     let address : get_or bytes 4 0 + 256 * get_or bytes 5 0 ≡ c.from.result + 256 * c.from-2.result = omega (arith, c.from.ensures, c.from-2.ensures) in
     let q = at_address f.replies address in
-    let taken = c.take-bytes.ensures (drop 10 f.payload) (take_rest bytes 18 ∙ f.others) in
-    let put = put_together f before c.copy-from-slice.new.self c.if-payload-length.false c.copy-from-slice.ensures.after c.take-bytes.new.out taken.1 in
+    let taken = c.take_bytes.ensures (drop 10 f.payload) (take_rest bytes 18 ∙ f.others) in
+    let put = put_together f before c.copy_from_slice.new.self c.if-payload-length.false c.copy_from_slice.ensures.after c.take_bytes.new.out taken.1 in
     record {
       reads = (f.payload, q, sym f.count, omega (arith, f.count, c.if-payload-length.false), put);
       gives_back = λ a d r room.

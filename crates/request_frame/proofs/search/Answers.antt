@@ -3,11 +3,11 @@ use Rattle.request_frame.proofs.Frame.{cut, here, not_here, past_end}
 use Rattle.request_frame.proofs.search.Goals as goal
 use Rattle.std.proofs.lemmas.Bool.{cases_lt}
 
-pub returns-then-is-request : goal.returns-then-is-request
-returns-then-is-request c =
+pub returns-then-is_request : goal.returns-then-is_request
+returns-then-is_request c =
     let at = c.loop-at.at in
     record {
-      least = ((_, _, here c.args.line.now at (cut c.args.line.now at) c.if-is-request.true c.is-request.ensures), c.loop-at.invariant);
+      least = ((_, _, here c.args.line.now at (cut c.args.line.now at) c.if-is_request.true c.is_request.ensures), c.loop-at.invariant);
       within = omega arith;
     }
 
@@ -15,7 +15,7 @@ pub loop-at-preserved : goal.loop-at-preserved
 loop-at-preserved c =
     let at = c.loop-at.at in
     below_more _ _ c.loop-at.invariant
-    (not_here c.args.line.now at (cut c.args.line.now at) c.if-is-request.false c.is-request.ensures)
+    (not_here c.args.line.now at (cut c.args.line.now at) c.if-is_request.false c.is_request.ensures)
 
 pub returns : goal.returns
 returns c =

@@ -14,14 +14,14 @@ empty rest h = and_left _ _ (le-ltb 0 (length rest) h)
 pub loop-at-init : goal.loop-at-init
 loop-at-init c = λ k h. too_long (drop k c.args.line.now) (omega (arith, length-drop k c.args.line.now))
 
-pub returns-then-is-begun : goal.returns-then-is-begun
-returns-then-is-begun c =
-    (ap begun (sym (take_rest c.args.line.now c.loop-at.at)) ∙ sym c.is-begun.ensures ∙ c.if-is-begun.true, c.loop-at.invariant)
+pub returns-then-is_begun : goal.returns-then-is_begun
+returns-then-is_begun c =
+    (ap begun (sym (take_rest c.args.line.now c.loop-at.at)) ∙ sym c.is_begun.ensures ∙ c.if-is_begun.true, c.loop-at.invariant)
 
 pub loop-at-preserved : goal.loop-at-preserved
 loop-at-preserved c =
     below_more _ _ c.loop-at.invariant
-    (ap begun (sym (take_rest c.args.line.now c.loop-at.at)) ∙ sym c.is-begun.ensures ∙ c.if-is-begun.false)
+    (ap begun (sym (take_rest c.args.line.now c.loop-at.at)) ∙ sym c.is_begun.ensures ∙ c.if-is_begun.false)
 
 pub returns : goal.returns
 returns c =

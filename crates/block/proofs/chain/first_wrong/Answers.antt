@@ -14,10 +14,10 @@ loop-k-init c =
     let r = c.chunks.ensures.rest in
     none_checked c.args.blocks.now (cc) (cc) (cc)
 
-pub returns-then-not-is-block : goal.returns-then-not-is-block
-returns-then-not-is-block c =
+pub returns-then-not-is_block : goal.returns-then-not-is_block
+returns-then-not-is_block c =
     let steps = c.in-Some.ensures.steps in
-    wrong_found c.loop-k.invariant (chunks_rest (enumerate_source c.next.new.self)) steps.0.1 (λ b. both_ways _ c.if-not-is-block.true (c.is-block.ensures.1 b)) steps.1
+    wrong_found c.loop-k.invariant (chunks_rest (enumerate_source c.next.new.self)) steps.0.1 (λ b. both_ways _ c.if-not-is_block.true (c.is_block.ensures.1 b)) steps.1
 
 pub loop-k-preserved : goal.loop-k-preserved
 loop-k-preserved c =

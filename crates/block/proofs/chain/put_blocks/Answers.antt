@@ -10,15 +10,15 @@ use Rattle.std.specs.Slice.Iter.{chunks_rest}
 pub loop-part-init : goal.loop-part-init
 loop-part-init c = (search rules, record { front = cc; behind = refl; within = search rules })
 
-pub put-block-at-requires : goal.put-block-at-requires
-put-block-at-requires c =
+pub put_block-at-requires : goal.put_block-at-requires
+put_block-at-requires c =
     let rest = chunks_rest c.next.new.self in
     let s = coming c.in-Some.part.now rest c.loop-part.invariant.1 c.loop-part.invariant.0 c.in-Some.ensures.steps.1 in
     let fits = coming_fits c.in-Some.part.now (chained rest) s (omega (arith, c.requires)) in
     simp (length-take, length-drop) (omega arith)
 
-pub overflow-add-at : goal.overflow-add-at
-overflow-add-at c =
+pub overflow_add-at : goal.overflow_add-at
+overflow_add-at c =
     let rest = chunks_rest c.next.new.self in
     let s = coming c.in-Some.part.now rest c.loop-part.invariant.1 c.loop-part.invariant.0 c.in-Some.ensures.steps.1 in
     let fits = coming_fits c.in-Some.part.now (chained rest) s (omega (arith, c.requires)) in

@@ -10,29 +10,29 @@ loop-block-init c =
     let r = c.chunks-block-items.ensures.rest in
     (cc, λ bytes is. record { blocks_left = cc; written = refl; within = omega arith })
 
-pub overflow-sub-n : goal.overflow-sub-n
-overflow-sub-n c =
+pub overflow_sub-n : goal.overflow_sub-n
+overflow_sub-n c =
     let so_far = c.loop-block.invariant.1 c.requires.0 c.requires.1 in
     (this_long so_far c.loop-block.invariant.0 c.in-Some.block.now (chunks_rest c.next.new.self) c.in-Some.ensures.steps.1).0
 
-pub overflow-add-at : goal.overflow-add-at
-overflow-add-at c =
+pub overflow_add-at : goal.overflow_add-at
+overflow_add-at c =
     let so_far = c.loop-block.invariant.1 c.requires.0 c.requires.1 in
     let t = this_long so_far c.loop-block.invariant.0 c.in-Some.block.now (chunks_rest c.next.new.self) c.in-Some.ensures.steps.1 in
     let u = t.1 in
     let v = c.requires.2 in
     search rules
 
-pub slice-bounds-copy-from-slice-end : goal.slice-bounds-copy-from-slice-end
-slice-bounds-copy-from-slice-end c =
+pub slice_bounds-copy_from_slice-end : goal.slice_bounds-copy_from_slice-end
+slice_bounds-copy_from_slice-end c =
     let so_far = c.loop-block.invariant.1 c.requires.0 c.requires.1 in
     let t = this_long so_far c.loop-block.invariant.0 c.in-Some.block.now (chunks_rest c.next.new.self) c.in-Some.ensures.steps.1 in
     let u = t.1 in
     let v = c.requires.2 in
     search rules
 
-pub overflow-add-at-in-loop-block : goal.overflow-add-at-in-loop-block
-overflow-add-at-in-loop-block c =
+pub overflow_add-at-in-loop-block : goal.overflow_add-at-in-loop-block
+overflow_add-at-in-loop-block c =
     let so_far = c.loop-block.invariant.1 c.requires.0 c.requires.1 in
     let t = this_long so_far c.loop-block.invariant.0 c.in-Some.block.now (chunks_rest c.next.new.self) c.in-Some.ensures.steps.1 in
     let u = t.1 in

@@ -21,11 +21,11 @@ december : (c : goal.After-loop-month) →
 december c =
     in_december c.args.year c.loop-month.month c.loop-month.left c.args.day (omega arith) (omega arith) c.loop-month.invariant c.requires
 
-pub overflow-cast-result-2 : goal.overflow-cast-result-2
-overflow-cast-result-2 c = let few = (december c).0 in search rules
+pub overflow_cast-result-2 : goal.overflow_cast-result-2
+overflow_cast-result-2 c = let few = (december c).0 in search rules
 
-pub overflow-add-result-2 : goal.overflow-add-result-2
-overflow-add-result-2 c = let few = (december c).0 in search rules
+pub overflow_add-result-2 : goal.overflow_add-result-2
+overflow_add-result-2 c = let few = (december c).0 in search rules
 
 pub returns : goal.returns
 returns c = record { month = (december c).1; day = (december c).2 }

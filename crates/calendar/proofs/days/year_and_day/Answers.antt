@@ -3,8 +3,8 @@ use Rattle.calendar.specs.Dates.{before, year_days}
 use Rattle.calendar.proofs.Years.{in_years}
 use Rattle.calendar.proofs.days.year_and_day.Goals as goal
 
-pub overflow-sub-result : goal.overflow-sub-result
-overflow-sub-result c = omega (arith, (in_years c.args.days c.requires).2)
+pub overflow_sub-result : goal.overflow_sub-result
+overflow_sub-result c = omega (arith, (in_years c.args.days c.requires).2)
 
 pub returns : goal.returns
 returns c =
