@@ -5,5 +5,5 @@ use Rattle.window.proofs.Window+OPEN.open.Goals as goal
 pub returns : goal.returns
 returns c = record { told = search rules; written = search rules; served = served }
 
-pub returns-in-err-write-request : goal.returns-in-err-write-request
-returns-in-err-write-request c = record { told = search rules; written = search rules; served = served }
+pub returns-in_err-write_request : goal.returns-in_err-write_request
+returns-in_err-write_request c = record { told = search rules; written = search rules; served = served }
