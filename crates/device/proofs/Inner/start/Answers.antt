@@ -14,5 +14,5 @@ returns g c events gaps =
       time = a i;
       readings = replicate 175 0;
       events = ring_unused c.fresh.result events e.empty c.args.volume e.volume e.cleared i;
-      gaps = ring_unused c.fresh-2.result gaps f.empty c.args.gap-volume f.volume f.cleared i;
+      gaps = ring_unused c.fresh-2.result gaps f.empty c.args.gap_volume f.volume f.cleared i;
     }

@@ -11,7 +11,7 @@ use Rattle.runs.specs.Promises.{Start}
 pub returns : goal.returns
 returns g c =
     let cells = g.S.Store.cells in
-    let s : Start = record { cells = cells c.args.store; volume = c.args.volume; volume_of_gaps = c.args.gap-volume; events = c.args.events.now; gaps = c.args.gaps.now } in
+    let s : Start = record { cells = cells c.args.store; volume = c.args.volume; volume_of_gaps = c.args.gap_volume; events = c.args.events.now; gaps = c.args.gaps.now } in
     let l = view cells c.run.new.converter c.run.new.events c.run.new.gaps in
     record {
       ran = subst (λ (b : Life). (h : List Turn) × MadeBy c.args.calls.now c.args.slots.now c.run.new.slots h × Ran b h l) (c.start-converter.ensures c.args.events.now c.args.gaps.now) c.run.ensures.ran;
