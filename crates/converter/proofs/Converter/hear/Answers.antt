@@ -12,8 +12,8 @@ returns-in-Ok g c =
     let es = c.args.events.now in
     let gs = c.args.gaps.now in
     let l = view cells c.args.self.now es gs in
-    let no = room_lent l c.args.reply.now c.has-room.result c.has-room.ensures ∙ ap not c.if-not-has-room.false in
-    let d = c.destination-of-destination in
+    let no = room_lent l c.args.reply.now c.has_room.result c.has_room.ensures ∙ ap not c.if-not-has_room.false in
+    let d = c.destination_of-destination in
     let e = c.in-Ok.ensures in
     hears_granted l c.args.line.now c.args.reply.now _ no (placed_found c.in-Some.found) c.in-Some.ensures.finds d.result d.ensures
     (seen cells c.judge.new.inner es gs) (seen cells c.act.new.inner es gs) (meant c.in-Ok.request) c.act.result c.act.new.reply (e.told es gs) (e.moves es gs) (c.act.ensures.obeyed es gs) c.act.ensures.long c.act.ensures.written
@@ -24,8 +24,8 @@ returns-in-Err g c =
     let es = c.args.events.now in
     let gs = c.args.gaps.now in
     let l = view cells c.args.self.now es gs in
-    let no = room_lent l c.args.reply.now c.has-room.result c.has-room.ensures ∙ ap not c.if-not-has-room.false in
-    let d = c.destination-of-destination in
+    let no = room_lent l c.args.reply.now c.has_room.result c.has_room.ensures ∙ ap not c.if-not-has_room.false in
+    let d = c.destination_of-destination in
     let e = c.in-Err.ensures in
     hears_refused l c.args.line.now c.args.reply.now _ no (placed_found c.in-Some.found) c.in-Some.ensures.finds d.result d.ensures
     (seen cells c.judge.new.inner es gs) (number c.in-Err.refusal) (company c.in-Err.refusal) (hearing (Err c.unheard-in-Err.result)) (e.told es gs) (ap (λ u. hearing (Err u)) c.unheard-in-Err.ensures) (e.moves es gs)
@@ -38,7 +38,7 @@ act-requires g c =
     let l = view cells c.args.self.now es gs in
     let e = c.in-Ok.ensures in
     let same = e.moves es gs in
-    let t = tested c.has-room.result (length c.args.reply.now) (length es) (length gs) l.events.volume l.gaps.volume c.has-room.ensures c.if-not-has-room.false in
+    let t = tested c.has_room.result (length c.args.reply.now) (length es) (length gs) l.events.volume l.gaps.volume c.has_room.ensures c.if-not-has_room.false in
     record {
       sized = e.sized;
       numbered = e.numbered;

@@ -5,9 +5,9 @@ use Rattle.converter.specs.Hearing.{replied, reply_length}
 
 pub returns : goal.returns
 returns g c =
-    let same = sent _ c.put-data-length.new.out _ c.put-data-length.result c.put-data-length.ensures.puts in
+    let same = sent _ c.put_data-length.new.out _ c.put_data-length.result c.put_data-length.ensures.puts in
     record {
       obeyed = search rules;
-      long = c.put-reply.ensures.long ∙ ap (reply_length c.args.destination) same;
-      written = c.put-reply.ensures.written ∙ ap (λ bytes. replied c.args.destination c.args.address bytes c.args.reply.now) same;
+      long = c.put_reply.ensures.long ∙ ap (reply_length c.args.destination) same;
+      written = c.put_reply.ensures.written ∙ ap (λ bytes. replied c.args.destination c.args.address bytes c.args.reply.now) same;
     }

@@ -2,9 +2,9 @@ use Rattle.std.proofs.Common.{◌+◌, ◌*◌, drop, sym, ◌∙◌, arith}
 use Rattle.orders.proofs.numbers.value_of.Goals as goal
 use Rattle.orders.proofs.Digits.{at_end, ended, grows, step}
 
-pub returns-in-default : goal.returns-in-default
-returns-in-default c = λ v e le.
-    let stop = step c.args.base c.loop-c.value c.loop-c.c-index c.args.digits.now _ c.loop-c-test.true (sym c.in-default.is ∙ c.digit.ensures) in
+pub returns-in_default : goal.returns-in_default
+returns-in_default c = λ v e le.
+    let stop = step c.args.base c.loop-c.value c.loop-c.c-index c.args.digits.now _ c.loop-c-test.true (sym c.in_default.is ∙ c.digit.ensures) in
     ended v (c.loop-c.invariant.1 ∙ stop) e
 
 pub returns-then-value-greatest : goal.returns-then-value-greatest
