@@ -42,6 +42,7 @@ act-requires g c =
     record {
       sized = e.sized;
       numbered = e.numbered;
+      numbered_read = e.numbered_read;
       events = subst (λ (k : Life). k.events.volume ≤ length es) (sym same) t.1;
       gaps = subst (λ (k : Life). k.gaps.volume ≤ length gs) (sym same) t.2;
       room = t.0;

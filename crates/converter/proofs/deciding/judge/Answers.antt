@@ -18,6 +18,7 @@ returns-in-Own g c =
       moves = λ es gs. own_moves (l es gs) (m es gs) d j c.args.inner.now.access (e.moves es gs) c.in-Own.is;
       sized = e.sized;
       numbered = e.numbered;
+      numbered_read = e.numbered_read;
     }
 
 pub returns-then-is_carried : goal.returns-then-is_carried
@@ -33,4 +34,5 @@ returns-then-is_carried g c =
       moves = λ es gs. broadcast_moves (l es gs) (m es gs) d j c.args.inner.now.access (e.moves es gs) c.in-Broadcast.is;
       sized = e.sized;
       numbered = e.numbered;
+      numbered_read = e.numbered_read;
     }
