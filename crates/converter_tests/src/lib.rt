@@ -234,8 +234,8 @@ mod tests {
         let mut data = [0u8; 29];
         let reply = read_reply(&slot.reply[0..41], &mut data)?;
         assert_eq!(rt; reply.length, 29);
-        assert_eq!(rt; &data[0..24], &[0x66; 24]);
-        assert_eq!(rt; &data[24..29], &[0xaa; 5]);
+        assert_eq!(rt; &data[0..24], [0x66; 24].as_slice());
+        assert_eq!(rt; &data[24..29], [0xaa; 5].as_slice());
         Ok(())
     }
 }

@@ -101,7 +101,7 @@ fn written_and_found(rt: HostRuntime) -> Result<(), Fail> {
             Ok(())
         );
         assert_eq!(rt; &line[9..27], &case.frame[0..18]);
-        assert_eq!(rt; &line[27..30], &[0xee, 0xee, 0xee]);
+        assert_eq!(rt; &line[27..30], [0xee, 0xee, 0xee].as_slice());
         assert_eq!(rt; search(&line), Some((9, case.command)));
         let request = read_request(&line, 9).ok_or("no request")?;
         assert_eq!(rt; request.address, case.address);
@@ -129,5 +129,5 @@ fn damaged(rt: HostRuntime) {
         write_request(&mut short, 1, 1, &[0; 9]),
         Err(Refusal::NoRoom)
     );
-    assert_eq!(rt; &short[0..17], &[0xee; 17]);
+    assert_eq!(rt; &short[0..17], [0xee; 17].as_slice());
 }

@@ -4,11 +4,11 @@
 #[cfg(test)]
 mod tests {
     use calendar::Clock;
+    use records::{Event, Kind, PowerGap, Report};
+    use refusal::Refusal;
     use ring_log::Position;
     use ring_log::reading::{copy_out, record_at};
     use ring_log::ring::{note_event, note_gap};
-    use records::{Event, Kind, PowerGap, Report};
-    use refusal::Refusal;
     use std::process::Abort;
     use std::test::Fail;
 
@@ -207,10 +207,19 @@ mod tests {
         assert!(rt; position.volume() <= 30);
         let mut out = [0u8; 251];
         assert_eq!(rt; copy_out(&position, &memory, 2, 100, &mut out), Ok(243));
-        assert_eq!(rt; &out[0..9], &[0x0D, 0, 0, 0, 0xF5, 0x03, 0, 0, 0xFA]);
-        assert_eq!(rt; &out[234..244], &[0x27, 0, 0, 0, 0x0F, 0x04, 0, 0, 0xC5, 0]);
+        assert_eq!(rt;
+            &out[0..9],
+            [0x0D, 0, 0, 0, 0xF5, 0x03, 0, 0, 0xFA].as_slice()
+        );
+        assert_eq!(rt;
+            &out[234..244],
+            [0x27, 0, 0, 0, 0x0F, 0x04, 0, 0, 0xC5, 0].as_slice()
+        );
         assert_eq!(rt; copy_out(&position, &memory, 28, 5, &mut out), Ok(18));
-        assert_eq!(rt; &out[9..18], &[0x28, 0, 0, 0, 0x10, 0x04, 0, 0, 0xC3]);
+        assert_eq!(rt;
+            &out[9..18],
+            [0x28, 0, 0, 0, 0x10, 0x04, 0, 0, 0xC3].as_slice()
+        );
         assert_eq!(rt;
             copy_out(&position, &memory, 30, 5, &mut out),
             Err(Refusal::LogIndex)
@@ -228,11 +237,11 @@ mod tests {
         assert_eq!(rt; copy_out(&position, &memory, 2, 100, &mut out), Ok(247));
         assert_eq!(rt;
             &out[0..13],
-            &[0x80, 0x0D, 0, 0, 0, 0, 0, 0, 0x0D, 0, 0, 0, 0x65]
+            [0x80, 0x0D, 0, 0, 0, 0, 0, 0, 0x0D, 0, 0, 0, 0x65].as_slice()
         );
         assert_eq!(rt;
             &out[234..247],
-            &[0x80, 0x1F, 0, 0, 0, 0, 0, 0, 0x1F, 0, 0, 0, 0x41]
+            [0x80, 0x1F, 0, 0, 0, 0, 0, 0, 0x1F, 0, 0, 0, 0x41].as_slice()
         );
         Ok(())
     }

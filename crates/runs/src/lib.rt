@@ -56,7 +56,7 @@ pub struct Slot {
 impl Slot {
     // A slot that no call was made for: its result is refusal 1, each byte of its reply memory 0xEE.
     pub fn blank() -> Slot
-        ensures* { λ r. ⌜ r ≡ record { result = Err (record { refusal = LittleMemory; company = Alone }); reply = replicate 295 0xEE } ⌝ }
+        ensures { result ≡ record { result = Err (record { refusal = LittleMemory; company = Alone }); reply = replicate 295 0xEE } }
     {
         Slot {
             result: Err(Unheard {

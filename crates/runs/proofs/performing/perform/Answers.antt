@@ -16,9 +16,9 @@ returns-in-Hear g c =
     let es : List Event = c.args.events.now in
     let gs : List PowerGap = c.args.gaps.now in
     let l = view cells c.args.converter.now es gs in
-    let m = view cells c.hear-lent.new.converter es gs in
+    let m = view cells c.hear_lent.new.converter es gs in
     let before : List ℕ = c.args.slot.reply in
-    let after : List ℕ = c.hear-lent.new.reply in
+    let after : List ℕ = c.hear_lent.new.reply in
     let room = c.in-Hear.room in
     let n = c.min.result in
     let long : length before ≡ 295 = search rules in
@@ -29,7 +29,7 @@ returns-in-Hear g c =
     let slot : Slot = record { result = c.heard-result.result; reply = after ++ drop (n - 0) (drop 0 before) } in
     let came = ap₂ (λ (r : Answer Grant) (b : List ℕ). record { result = r; reply = b; events = es; gaps = gs }) (sym c.heard-result.ensures) (sym given) in
     let step =
-    subst₂ (λ (p : List ℕ) (o : Outcome). Steps l (hear c.in-Hear.line.now p c.in-Hear.lent.events c.in-Hear.lent.gaps) o m) lent came c.hear-lent.ensures in
+    subst₂ (λ (p : List ℕ) (o : Outcome). Steps l (hear c.in-Hear.line.now p c.in-Hear.lent.events c.in-Hear.lent.gaps) o m) lent came c.hear_lent.ensures in
     record {
       steps = subst (λ (x : Call). Steps l (call_of x c.args.slot) (outcome_of x slot es gs) m) (sym c.in-Hear.is) step;
       rest = subst (λ (x : Call). rest_of x slot ≡ rest_of x c.args.slot) (sym c.in-Hear.is) kept;
