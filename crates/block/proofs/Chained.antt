@@ -1,5 +1,5 @@
 -- Laws of blocks one behind another: their length, the first of them, and that they tell their bytes.
-use Rattle.std.proofs.Common.{◌≡◌, ℕ, zero, suc, ◌+◌, ◌-◌, ◌*◌, ◌/◌, ◌<◌, ◌≤◌, min, List, [], ◌∷◌, ◌++◌, length, take, drop, sym, refl, ap, ◌∙◌, subst, append-nil, arith, length-append, length-drop, take-append-drop, length-take}
+use Rattle.std.proofs.Common.{◌≡◌, ℕ, zero, suc, ◌+◌, ◌-◌, ◌*◌, ◌<◌, ◌≤◌, min, List, [], ◌++◌, length, take, drop, sym, refl, ap, ◌∙◌, subst, arith, length-append, length-drop, take-append-drop, length-take}
 use Rattle.block.specs.Block.{Block, sealed}
 use Rattle.block.specs.Chain.{AllRight, block_at, chain, chained, parts}
 use Rattle.block.proofs.Placed.{Step, done, first_part, same_cut}

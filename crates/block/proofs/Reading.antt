@@ -1,12 +1,12 @@
 -- What holds from turn to turn while blocks are checked and read, one part of at most 16 bytes at a time.
-use Rattle.std.proofs.Common.{◌≡◌, ℕ, ◌+◌, ◌-◌, ◌*◌, ◌<◌, ◌≤◌, min, List, [], ◌++◌, length, take, drop, sym, refl, ap, ◌∙◌, subst, append_assoc, append-nil, arith, length-append, length-drop, take-append-drop, length-take, take-add, below_more}
+use Rattle.std.proofs.Common.{◌≡◌, ℕ, ◌+◌, ◌-◌, ◌*◌, ◌<◌, ◌≤◌, min, List, ◌++◌, length, take, drop, sym, ap, ◌∙◌, subst, append_assoc, arith, length-drop, take-append-drop, length-take, take-add, below_more}
 use borrow.Rule.Slice.PartMut.{put_mid}
 use Rattle.block.specs.Block.{Block, sealed}
 use Rattle.block.specs.Chain.{AllRight, FirstWrong, block_at, chained}
-use Rattle.block.proofs.Chained.{chained_none, length-chained, split}
+use Rattle.block.proofs.Chained.{length-chained, split}
 use Rattle.block.proofs.Placed.{first_part}
 use Rattle.block.proofs.Sealed.{front, length-sealed}
-use Rattle.std.proofs.lemmas.List.{drop_all, drop_at, drop-drop, length-take-le, take_all, take_at}
+use Rattle.std.proofs.lemmas.List.{drop_at, drop-drop, length-take-le, take_all, take_at}
 
 -- the next part of what is left
 abbrev pub Part : ℕ → List ℕ → List ℕ → List ℕ → Type 0

@@ -1,9 +1,9 @@
 -- Laws of a block: its length, its parts, and the test that tells it.
-use Rattle.std.proofs.Common.{◌≡◌, ℕ, ◌+◌, ◌-◌, ◌*◌, ◌/◌, ◌%◌, ◌<◌, ◌≤◌, true, false, eqb, List, [], ◌∷◌, ◌++◌, length, get_or, take, drop, set, Decides, sym, refl, ap, ◌∙◌, append_assoc, append-nil, arith, length-append, take-append-drop}
+use Rattle.std.proofs.Common.{◌≡◌, ℕ, ◌+◌, ◌-◌, ◌*◌, ◌/◌, ◌%◌, ◌<◌, ◌≤◌, false, eqb, List, [], ◌∷◌, ◌++◌, length, get_or, take, drop, set, Decides, sym, ap, ◌∙◌, append_assoc, append-nil, arith, length-append, take-append-drop}
 use borrow.Rule.Slice.PartMut.{put_mid}
 use Rattle.block.specs.Block.{Block, sealed}
 use Rattle.check_word.specs.CheckWord.{check_word}
-use Rattle.std.proofs.lemmas.List.{drop_all, drop_at, drop_more, get_or-append-add, get_or_append_left, get_or_at, set-append_right, set_at, take_all, take_at}
+use Rattle.std.proofs.lemmas.List.{drop_all, drop_more, get_or-append-add, get_or_append_left, get_or_at, set-append_right, set_at, take_all, take_at}
 use Rattle.std.proofs.lemmas.Bool.{eq-eqb, eqb-true, false≢true}
 
 pub length-sealed : (bytes : List ℕ) → length (sealed bytes) ≡ length bytes + 2

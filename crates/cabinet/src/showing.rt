@@ -2,10 +2,10 @@
 use crate::bench::Bench;
 use access::{Access, Permitted};
 use converter::Converter;
-use ring_log::Position;
-use ring_log::reading::record_at;
 use orders::Shown;
 use records::Kind;
+use ring_log::Position;
+use ring_log::reading::record_at;
 use std::{fmt, io};
 use store::Store;
 use wording::Hex;

@@ -2,7 +2,7 @@
 use Rattle.std.proofs.Common.{◌≡◌, ℕ, true, List, sym, ap, ◌∙◌}
 use Rattle.access.specs.declared.Access.{Access}
 use Rattle.access.specs.declared.Destination.{Destination}
-use Rattle.access.specs.declared.Destination.TheVariants.{Own, Broadcast, Foreign}
+use Rattle.access.specs.declared.Destination.TheVariants.{Own, Broadcast}
 use Rattle.converter.specs.Hearing.{carried, in_row, judged_for, standing, standing_for, with_access}
 use Rattle.device.specs.Life.{Life}
 use Rattle.refusal.specs.Told.{Answer}

@@ -1,9 +1,9 @@
 -- Hearing, put together: the room, the request found, the decision, the deed and the reply.
-use Rattle.std.proofs.Common.{◌≡◌, ℕ, ◌-◌, ◌≤◌, Bool, true, false, not, ◌&&◌, ◌||◌, ltb, leb, List, length, take, drop, Some, None, Option, sym, refl, ap, ◌∙◌, subst, ap₂, arith}
+use Rattle.std.proofs.Common.{◌≡◌, ℕ, ◌-◌, ◌≤◌, Bool, true, false, not, ◌&&◌, ◌||◌, ltb, leb, List, length, take, drop, Some, Option, sym, refl, ap, ◌∙◌, subst, ap₂, arith}
 use Rattle.access.specs.declared.Access.{Access}
 use Rattle.access.specs.declared.Destination.{Destination}
-use Rattle.converter.specs.Calls.{Hears, Steps, hear, heard, no_room, of_hearing, outcome, short}
-use Rattle.converter.specs.Hearing.{Finds, Found, Hearing, behind, destination, did, judged, judged_for, life_after, moved_by, replied, reply_by, reply_length, reply_to, result_by, result_to, standing_for, with_access}
+use Rattle.converter.specs.Calls.{Hears, heard, no_room, of_hearing, outcome, short}
+use Rattle.converter.specs.Hearing.{Finds, Found, Hearing, behind, destination, judged, judged_for, life_after, moved_by, replied, reply_by, reply_length, reply_to, result_by, result_to, standing_for, with_access}
 use Rattle.device.specs.Life.{Life}
 use Rattle.device.specs.Rows.{Puts, data_of, obeyed}
 use Rattle.refusal.specs.Told.{Answer, granted, refused, used}
@@ -11,7 +11,6 @@ use Rattle.refusal.specs.declared.Company.{Company}
 use Rattle.refusal.specs.declared.Company.TheVariants.{Used}
 use Rattle.request.specs.Asked.{Asked, prepare, change_address, read_address, change_password, permit, readings, write_setpoint, set_speed, set_clock, read_clock, write_marks, read_marks, synchronise, read_setting, clear_log, log_state, log_records, write_configuration, read_configuration, write_output_mask}
 use Rattle.std.proofs.lemmas.List.{take_all, take_at}
-use Rattle.std.proofs.lemmas.Bool.{leb-true}
 use Rattle.std.proofs.lemmas.Bool.Decides.{nat_tests}
 
 -- the bytes put are those that are then sent

@@ -1,7 +1,7 @@
 -- What a caller is told: that the call is granted, or a refusal's number and what comes with it.
 use Rattle.std.specs.Prelude.{ℕ, ◌-◌, cond, Ok, Err, Result, ◌==◌}
 use Rattle.refusal.specs.declared.Company.{Company}
-use Rattle.refusal.specs.declared.Company.TheVariants.{Alone, Used, Block}
+use Rattle.refusal.specs.declared.Company.TheVariants.{Alone, Block}
 use Rattle.refusal.specs.declared.Refusal.{Refusal}
 use Rattle.refusal.specs.declared.Refusal.TheVariants.{LittleMemory, NoRequest, ForeignAddress, NotForBroadcast, UnknownCommand, NotPrepared, NotPermitted, Parameter, LogIndex, WrongPassword, PastLastYear, EventReason, NoVolume, NoReply, CheckWord, NoRoom}
 

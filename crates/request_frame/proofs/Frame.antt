@@ -1,5 +1,5 @@
 -- Laws of a request's 18 bytes: its length, its fields, and the test that tells it.
-use Rattle.std.proofs.Common.{◌≡◌, ℕ, ◌+◌, ◌-◌, ◌*◌, ◌/◌, ◌%◌, ◌<◌, Bool, true, false, List, [], ◌∷◌, ◌++◌, length, get_or, take, drop, Decides, sym, refl, ap, ◌∙◌, subst, arith, length-drop, length-take}
+use Rattle.std.proofs.Common.{◌≡◌, ℕ, ◌+◌, ◌-◌, ◌*◌, ◌/◌, ◌%◌, ◌<◌, Bool, true, false, List, ◌∷◌, length, get_or, take, drop, Decides, sym, ap, ◌∙◌, subst, arith, length-drop, length-take}
 use Rattle.block.proofs.Sealed.{front, slice_index-sealed, length-sealed}
 use Rattle.block.specs.Block.{Block, sealed}
 use Rattle.request_frame.specs.Requests.{ReadsAs, Requests, Valid, headed, request, window}

@@ -1,5 +1,5 @@
 -- The request that an answer speaks of is the one that was found, and the one that was granted.
-use Rattle.std.proofs.Common.{◌≡◌, ℕ, ◌+◌, ◌-◌, Bool, true, false, cond, ◌||◌, eqb, List, get_or, take, drop, Some, None, Option, sym, refl, ap, ◌∙◌, ap₂, arith}
+use Rattle.std.proofs.Common.{◌≡◌, ℕ, ◌+◌, ◌-◌, Bool, true, false, cond, List, take, drop, Some, None, Option, sym, ap, ◌∙◌, ap₂, arith}
 use Rattle.access.specs.declared.Destination.{Destination}
 use Rattle.access.specs.declared.Destination.TheVariants.{Own, Broadcast, Foreign}
 use Rattle.converter.specs.Hearing.{Finds, Found, behind, carried, destination, in_row, judged, judged_for, ruled}

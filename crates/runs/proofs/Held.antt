@@ -1,5 +1,5 @@
 -- The promises, of a run from a fresh converter.
-use Rattle.std.proofs.Common.{◌≡◌, ℕ, ◌<◌, List, sym, ◌∙◌}
+use Rattle.std.proofs.Common.{List, sym, ◌∙◌}
 use Rattle.device.specs.Life.{Life}
 use Rattle.runs.proofs.Alike.{logs, records}
 use Rattle.runs.proofs.Given.{cells_are}

@@ -6,13 +6,11 @@ use Rattle.access.specs.declared.Destination.TheVariants.{Own}
 use Rattle.calendar.specs.Times.{Time, later, nine_bytes, start}
 use Rattle.converter.specs.Calls.{Call, Grant, Hears, Outcome, Steps, advance, advance_result, event_noted, event_now, event_result, gap_noted, gap_result, hear, heard, measure, measured, measure_result, no_room, note_event, note_gap, note_result, of_done, of_hearing, outcome, short, timed}
 use Rattle.converter.specs.Hearing.{Finds, Found, behind, destination, judged, judged_for, life_after, moved_by, replied, reply_by, reply_length, reply_to, result_by, result_to, ruled, standing_for, with_access}
-use Rattle.device.specs.Life.{Life, Ring, emptied, entered, fresh, held_in}
+use Rattle.device.specs.Life.{Life, Ring, emptied, entered, fresh}
 use Rattle.device.specs.Rows.{changed, clears, data_of, events_after, gaps_after, held_by, is_events, obeyed, time_after}
 use Rattle.ring_log.proofs.Kept.{kept_none, kept_step}
-use Rattle.ring_log.specs.Logs.{newest}
-use Rattle.ring_log.specs.Reading.{sent_bytes}
 use Rattle.records.specs.Reasons.{lawful}
-use Rattle.records.specs.Records.{event_at, event_bytes, gap_bytes}
+use Rattle.records.specs.Records.{event_at}
 use Rattle.records.specs.declared.Event.{Event}
 use Rattle.records.specs.declared.PowerGap.{PowerGap}
 use Rattle.records.specs.declared.Report.{Report}
@@ -25,7 +23,7 @@ use Rattle.request_frame.proofs.Frame.{length-request, past_end, reads_as}
 use Rattle.request_frame.specs.Requests.{Requests, request, window}
 use Rattle.runs.proofs.Asked.{frame_asked, granted_asked, never}
 use Rattle.runs.specs.History.{Ran, Turn, frame_asks, cleared_by, clears_events, clears_gaps, clock_after, events_since, events_with, frame_before, gaps_since, gaps_with, ticked_by, time_by, unless_cleared}
-use Rattle.runs.specs.Records.{HeardSo, Logged, Shows, address_of, asks_records, records_answer, with_data}
+use Rattle.runs.specs.Records.{HeardSo, Logged, Shows, address_of, asks_records, with_data}
 use Rattle.std.proofs.lemmas.List.{take_all}
 use Rattle.std.proofs.lemmas.Bool.{cases_eq, eq-eqb, false≢true, ltb-false, ne_eqb, or_parts}
 

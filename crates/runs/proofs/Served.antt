@@ -5,7 +5,7 @@ use Rattle.access.specs.Decision.{afterwards, index_past, own, right, stepped, k
 use Rattle.access.specs.declared.Access.{Access}
 use Rattle.access.specs.declared.Destination.{Destination}
 use Rattle.access.specs.declared.Destination.TheVariants.{Own, Broadcast, Foreign}
-use Rattle.converter.specs.Calls.{Call, Hears, Outcome, Steps, hear, no_room, of_hearing}
+use Rattle.converter.specs.Calls.{Call, Hears, Outcome, Steps, no_room, of_hearing}
 use Rattle.converter.specs.Hearing.{Finds, Found, carried, destination, in_row, judged, judged_for, life_after, result_by, result_to, ruled, standing, standing_for}
 use Rattle.device.specs.Life.{Life}
 use Rattle.device.specs.Rows.{held_for}

@@ -1,16 +1,16 @@
 -- A call that is lent a part of the log memories is the call with all of them.
-use Rattle.std.proofs.Common.{◌≡◌, ℕ, ◌-◌, ◌<◌, ◌≤◌, min, Bool, true, false, cond, ◌||◌, eqb, ltb, leb, List, [], ◌++◌, length, take, drop, set, Some, None, Option, sym, refl, ap, ◌∙◌, subst, ap₂, ⊎_elim, arith, take-append-drop, length-take}
+use Rattle.std.proofs.Common.{◌≡◌, ℕ, ◌-◌, ◌<◌, ◌≤◌, min, Bool, true, false, cond, ◌||◌, eqb, ltb, List, [], ◌++◌, length, take, drop, set, Some, None, Option, sym, refl, ap, ◌∙◌, subst, ap₂, ⊎_elim, arith, take-append-drop, length-take}
 use Rattle.access.specs.declared.Destination.{Destination}
 use Rattle.access.specs.declared.Destination.TheVariants.{Own, Broadcast, Foreign}
 use Rattle.access.specs.Decision.{own, right, verdict}
 use Rattle.calendar.specs.Times.{nine_bytes}
 use Rattle.converter.specs.Calls.{Grant, Hears, Steps, event_noted, event_now, event_result, gap_noted, gap_result, hear, no_room, note_event, note_gap, note_result, of_done, of_hearing, outcome, short}
-use Rattle.converter.specs.Hearing.{Finds, Found, behind, carried, destination, did, in_row, judged, judged_for, life_after, moved_by, replied, reply_by, reply_length, reply_to, result_by, result_to, ruled, standing_for, with_access}
+use Rattle.converter.specs.Hearing.{Found, behind, carried, destination, in_row, judged, judged_for, life_after, moved_by, replied, reply_by, reply_length, reply_to, result_by, result_to, ruled, standing_for}
 use Rattle.converter.specs.Told.{note_call}
 use Rattle.converter.specs.declared.noting.Note.{Note}
 use Rattle.converter.specs.declared.noting.Note.TheVariants.{Event as Noted, Gap}
 use Rattle.device.specs.Life.{Life, Ring, emptied, held_in, place_after}
-use Rattle.device.specs.Rows.{changed, clears, data_of, events_after, gaps_after, held_at, held_for, is_events, obeyed, reads_log}
+use Rattle.device.specs.Rows.{changed, clears, data_of, events_after, gaps_after, held_at, is_events, obeyed, reads_log}
 use Rattle.ring_log.specs.Logs.{around}
 use Rattle.ring_log.specs.Reading.{sent_bytes}
 use Rattle.records.specs.Reasons.{lawful as sound}
@@ -19,7 +19,7 @@ use Rattle.records.specs.declared.Event.{Event}
 use Rattle.records.specs.declared.PowerGap.{PowerGap}
 use Rattle.records.specs.declared.Report.{Report}
 use Rattle.refusal.specs.Told.{Answer, granted, refused}
-use Rattle.refusal.specs.declared.Company.TheVariants.{Alone, Used}
+use Rattle.refusal.specs.declared.Company.TheVariants.{Alone}
 use Rattle.request.specs.Asked.{Asked, asked, prepare, change_address, read_address, change_password, permit, readings, write_setpoint, set_speed, set_clock, read_clock, write_marks, read_marks, synchronise, read_setting, clear_log, log_state, log_records, write_configuration, read_configuration, write_output_mask}
 use Rattle.std.proofs.lemmas.List.{drop_all, set-append_left, take_all, take-take}
 use Rattle.std.proofs.lemmas.Bool.{cases_lt, false≢true}

@@ -1,5 +1,5 @@
 -- What requests for log records are answered, and which records a log holds.
-use Rattle.std.specs.Prelude.{◌≡◌, ℕ, ◌+◌, ◌*◌, ◌<◌, min, false, cond, not, ◌↔◌, List, ◌++◌, length, drop, ◌≢◌, nat_le, slice_index}
+use Rattle.std.specs.Prelude.{◌≡◌, ℕ, ◌+◌, ◌*◌, ◌<◌, min, false, cond, not, List, ◌++◌, length, drop, ◌≢◌, nat_le, slice_index}
 use Rattle.converter.specs.Calls.{Outcome, Steps, hear, heard, no_room}
 use Rattle.converter.specs.Hearing.{Found, judged}
 use Rattle.device.specs.Life.{Life, Ring, held_in}

@@ -1,6 +1,6 @@
 -- The frames of one write window, heard in turn.
 use Rattle.std.specs.Prelude.{◌≡◌, ℕ, Bool, true, false, List, [], ◌∷◌, ◌++◌, length, Some, ◌≢◌}
-use Rattle.converter.specs.Calls.{Call, Grant, Outcome, Steps, advance, hear, measure, note_event, note_gap}
+use Rattle.converter.specs.Calls.{Call, Grant, Outcome, Steps, hear}
 use Rattle.device.specs.Life.{Life}
 use Rattle.refusal.specs.Told.{Answer, granted, refused}
 use Rattle.refusal.specs.declared.Company.{Company}

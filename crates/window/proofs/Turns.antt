@@ -1,5 +1,5 @@
 -- No frame of a window wants for preparation or permission.
-use Rattle.std.proofs.Common.{◌≡◌, ℕ, Bool, true, false, cond, not, eqb, List, [], ◌∷◌, ◌++◌, length, replicate, Some, None, Option, sym, refl, ap, ◌∙◌, ⊎_elim, arith}
+use Rattle.std.proofs.Common.{◌≡◌, ℕ, Bool, true, false, cond, not, eqb, List, [], ◌∷◌, replicate, Some, None, Option, sym, refl, ap, ◌∙◌, ⊎_elim, arith}
 use Rattle.access.specs.Decision.{index_past, unpermitted, unprepared, verdict}
 use Rattle.access.specs.declared.Access.{Access}
 use Rattle.access.specs.declared.Permitted.{Permitted}

@@ -2,7 +2,7 @@
 use Rattle.std.specs.Prelude.{◌≡◌, ℕ, Bool, true, List, [], ◌∷◌, ◌++◌, length, replicate, Some, ◌≢◌}
 use Rattle.access.specs.Decision.{afterwards, verdict}
 use Rattle.access.specs.declared.Access.{Access}
-use Rattle.refusal.specs.Told.{Answer, granted, refused}
+use Rattle.refusal.specs.Told.{granted, refused}
 use Rattle.refusal.specs.declared.Company.TheVariants.{Alone}
 use Rattle.request.specs.Asked.{Asked, asked, command_of, permit, prepare, read_address}
 use Rattle.window.specs.Frames.{open_writes, permitted_writes}

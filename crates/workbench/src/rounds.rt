@@ -1,9 +1,9 @@
 // A log of power gaps that goes round.
+use records::PowerGap;
+use refusal::Refusal;
 use ring_log::Position;
 use ring_log::reading::record_at;
 use ring_log::ring::note_gap;
-use records::PowerGap;
-use refusal::Refusal;
 use std::io;
 
 // The records that a log holds, oldest first.

@@ -1,4 +1,4 @@
-use Rattle.std.proofs.Common.{◌≡◌, ℕ, Decides, subst}
+use Rattle.std.proofs.Common.{ℕ, Decides, subst}
 use Rattle.access.proofs.Four.{four}
 use Rattle.access.proofs.is_stored.Goals as goal
 use Rattle.store.specs.Cells.{Hold}

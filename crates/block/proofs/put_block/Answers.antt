@@ -1,8 +1,7 @@
-use Rattle.std.proofs.Common.{◌≡◌, ℕ, ◌-◌, ◌/◌, ◌%◌, List, length, drop, refl, ap, arith, rules}
+use Rattle.std.proofs.Common.{◌≡◌, ℕ, ◌-◌, ◌/◌, ◌%◌, List, length, refl, arith, rules}
 use Rattle.block.specs.Block.{sealed}
 use Rattle.block.proofs.put_block.Goals as goal
 use Rattle.block.proofs.Sealed.{put_behind}
-use Rattle.check_word.specs.CheckWord.{check_word}
 
 pub returns : goal.returns
 unfolding sealed

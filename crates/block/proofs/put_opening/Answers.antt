@@ -1,4 +1,4 @@
-use Rattle.std.proofs.Common.{◌≡◌, ℕ, ◌+◌, length, ap, arith, rules}
+use Rattle.std.proofs.Common.{◌≡◌, ◌+◌, length, rules}
 use Rattle.block.specs.Block.{sealed}
 use Rattle.block.proofs.put_opening.Goals as goal
 use Rattle.block.proofs.Sealed.{behind_head}

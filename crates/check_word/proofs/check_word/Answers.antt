@@ -1,4 +1,4 @@
-use Rattle.std.proofs.Common.{◌≡◌, ℕ, ◌-◌, sym, ap, ◌∙◌, rules}
+use Rattle.std.proofs.Common.{ℕ, ◌-◌, sym, ap, ◌∙◌, rules}
 use Rattle.check_word.specs.CheckWord.{after, check_word}
 use Rattle.check_word.proofs.check_word.Goals as goal
 use Rattle.std.proofs.lemmas.List.{at_drop_all, at_drop_more}

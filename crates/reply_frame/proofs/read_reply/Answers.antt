@@ -1,5 +1,5 @@
-use Rattle.std.proofs.Common.{◌≡◌, ℕ, ◌+◌, ◌-◌, ◌*◌, List, ◌++◌, length, get_or, take, drop, sym, refl, ap, ◌∙◌, subst, inl, inr, arith, length-append, length-drop, rules}
-use Rattle.block.specs.Chain.{AllRight, FirstWrong, chained}
+use Rattle.std.proofs.Common.{◌≡◌, ℕ, ◌+◌, ◌*◌, List, ◌++◌, length, get_or, drop, sym, refl, ap, ◌∙◌, subst, inl, inr, arith}
+use Rattle.block.specs.Chain.{AllRight, FirstWrong}
 use Rattle.reply_frame.proofs.read_reply.Goals as goal
 use Rattle.reply_frame.proofs.Whole.{at_address, found, others_fit, put_together, tells, unique}
 use Rattle.std.proofs.lemmas.List.{take_rest}

@@ -1,5 +1,4 @@
-use Rattle.std.proofs.Common.{◌≡◌, ℕ, ◌+◌, ◌≤◌, min, true, List, ◌++◌, length, take, sym, ap, ◌∙◌, subst, arith}
-use Rattle.block.specs.Block.{opening}
+use Rattle.std.proofs.Common.{◌≡◌, ℕ, ◌+◌, ◌≤◌, true, List, length, take, sym, ap, ◌∙◌, subst, arith}
 use Rattle.refusal.specs.Told.{granted}
 use Rattle.reply_frame.specs.Replies.{ReadsAs, data_len, filled, fits, on_line}
 use Rattle.reply_frame.proofs.Parts.{rest_fits, written}

@@ -1,4 +1,4 @@
-use Rattle.std.proofs.Common.{refl, arith, rules}
+use Rattle.std.proofs.Common.{refl, arith}
 use Rattle.request_frame.proofs.Frame.{cut, here, moved, not_here, past_end}
 use Rattle.request_frame.proofs.read_request.Goals as goal
 use Rattle.request_frame.proofs.read_request.Goals.{then-line-lt-REQUEST_BYTES-via-then-line-lt-REQUEST_BYTES, then-line-lt-REQUEST_BYTES-via-else-line-lt-REQUEST_BYTES+then-at-line}

@@ -1,4 +1,4 @@
-use Rattle.std.proofs.Common.{ℕ, ◌+◌, ◌<◌, length, ⊎_elim, arith, below_more}
+use Rattle.std.proofs.Common.{⊎_elim, arith, below_more}
 use Rattle.request_frame.proofs.Frame.{cut, here, not_here, past_end}
 use Rattle.request_frame.proofs.search.Goals as goal
 use Rattle.std.proofs.lemmas.Bool.{cases_lt}

@@ -1,4 +1,4 @@
-use Rattle.std.proofs.Common.{◌≡◌, ℕ, ◌+◌, ◌<◌, ◌≤◌, false, List, length, drop, sym, ap, ◌∙◌, ⊎_elim, arith, length-drop, below_more}
+use Rattle.std.proofs.Common.{◌≡◌, ℕ, ◌≤◌, false, List, length, drop, sym, ap, ◌∙◌, ⊎_elim, arith, length-drop, below_more}
 use Rattle.request_frame.specs.Requests.{begun}
 use Rattle.request_frame.proofs.unfinished.Goals as goal
 use Rattle.std.proofs.lemmas.List.{take_rest}

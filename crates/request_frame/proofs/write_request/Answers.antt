@@ -1,4 +1,4 @@
-use Rattle.std.proofs.Common.{◌≡◌, ◌≤◌, ◌++◌, length, take, drop, sym, ap, ◌∙◌, arith, rules}
+use Rattle.std.proofs.Common.{◌≡◌, ◌++◌, length, take, drop, sym, ap, ◌∙◌, rules}
 use Rattle.request_frame.specs.Requests.{request}
 use Rattle.request_frame.proofs.Frame.{length-request, reads_as}
 use Rattle.request_frame.proofs.write_request.Goals as goal

@@ -1,4 +1,3 @@
-use Rattle.std.proofs.Common.{◌≡◌, ap, ◌∙◌}
 use Rattle.block.proofs.chain.first_wrong.Goals as goal
 use Rattle.block.proofs.Reading.{all_checked, none_checked, one_more_checked, wrong_found}
 use Rattle.std.proofs.lemmas.Bool.{both_ways}

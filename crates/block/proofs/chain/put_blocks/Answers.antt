@@ -1,4 +1,4 @@
-use Rattle.std.proofs.Common.{◌≡◌, ◌+◌, ◌≤◌, length, sym, refl, ◌∙◌, arith, length-drop, length-take, rules}
+use Rattle.std.proofs.Common.{◌≡◌, length, sym, refl, ◌∙◌, arith, length-drop, length-take, rules}
 use Rattle.block.specs.Block.{sealed}
 use Rattle.block.specs.Chain.{chained}
 use Rattle.block.proofs.chain.put_blocks.Goals as goal

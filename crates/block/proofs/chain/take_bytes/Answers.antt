@@ -1,4 +1,4 @@
-use Rattle.std.proofs.Common.{◌≡◌, ℕ, ◌+◌, ◌-◌, ◌≤◌, length, sym, refl, ap, ◌∙◌, arith, rules}
+use Rattle.std.proofs.Common.{◌≡◌, ℕ, ◌+◌, ◌-◌, length, refl, ◌∙◌, arith, rules}
 use Rattle.block.proofs.chain.take_bytes.Goals as goal
 use Rattle.block.proofs.Reading.{all_taken, one_more_taken, this_long}
 use Rattle.std.specs.Slice.Iter.{chunks_rest}

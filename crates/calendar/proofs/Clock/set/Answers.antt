@@ -1,4 +1,4 @@
-use Rattle.std.proofs.Common.{◌≡◌, true, false, sym, ◌∙◌, arith, rules}
+use Rattle.std.proofs.Common.{◌≡◌, true, false, sym, ◌∙◌, rules}
 use Rattle.calendar.specs.Dates.{is_lawful}
 use Rattle.calendar.proofs.Inverse.{every_date}
 use Rattle.calendar.proofs.Clock.set.Goals as goal

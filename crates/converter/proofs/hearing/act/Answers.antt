@@ -1,4 +1,4 @@
-use Rattle.std.proofs.Common.{replicate, ap, ◌∙◌, rules}
+use Rattle.std.proofs.Common.{ap, ◌∙◌, rules}
 use Rattle.converter.proofs.Together.{sent}
 use Rattle.converter.proofs.hearing.act.Goals as goal
 use Rattle.converter.specs.Hearing.{replied, reply_length}

@@ -1,4 +1,4 @@
-use Rattle.std.proofs.Common.{◌≡◌, ℕ, ◌-◌, List, length, take, drop, ap, ◌∙◌, subst₂}
+use Rattle.std.proofs.Common.{ℕ, ◌-◌, List, length, take, drop, ap, ◌∙◌, subst₂}
 use Rattle.converter.specs.Calls.{Steps, hear, of_hearing, outcome}
 use Rattle.converter.specs.Told.{hearing, view}
 use Rattle.device.specs.Life.{position_at}

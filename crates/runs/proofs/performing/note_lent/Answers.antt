@@ -1,4 +1,4 @@
-use Rattle.std.proofs.Common.{◌≡◌, ℕ, ◌-◌, List, [], ◌++◌, length, take, drop, sym, ap, ◌∙◌, subst₂}
+use Rattle.std.proofs.Common.{ℕ, ◌-◌, List, [], ◌++◌, length, take, drop, sym, ap, ◌∙◌, subst₂}
 use Rattle.converter.specs.Calls.{Steps, of_done, outcome}
 use Rattle.converter.specs.Told.{note_call, view}
 use Rattle.device.specs.Life.{position_at}

@@ -1,4 +1,4 @@
-use Rattle.std.proofs.Common.{◌≡◌, ℕ, ◌-◌, List, ◌++◌, length, take, drop, sym, subst, ap₂, subst₂, rules}
+use Rattle.std.proofs.Common.{◌≡◌, ℕ, ◌-◌, List, ◌++◌, length, drop, sym, subst, ap₂, subst₂, rules}
 use Rattle.converter.specs.Calls.{Grant, Outcome, Steps, hear}
 use Rattle.converter.specs.Told.{view}
 use Rattle.records.specs.declared.Event.{Event}

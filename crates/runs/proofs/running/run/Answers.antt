@@ -1,4 +1,4 @@
-use Rattle.std.proofs.Common.{◌<◌, ◌≤◌, length, arith, rules}
+use Rattle.std.proofs.Common.{◌<◌, length, arith, rules}
 use Rattle.converter.specs.Told.{view}
 use Rattle.runs.proofs.Lived.{run_all, run_more}
 use Rattle.runs.proofs.running.run.Goals as goal
