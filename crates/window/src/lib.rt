@@ -24,7 +24,7 @@ const READ_ADDRESS: u8 = 0x03;
 
 const KEY: u8 = 0xa5;
 
-// A window on the converter with one address.
+// A window on the converter with one address. It is no `Drop`: it is written or closed, never let go.
 pub struct Window<const STATE: bool> {
     address: u16,
 }
@@ -33,15 +33,6 @@ pub struct Window<const STATE: bool> {
 pub struct Kept<const STATE: bool> {
     pub window: Window<STATE>,
     pub refusal: Refusal,
-}
-
-// A window is written or closed, never let go: no program meets what this asks.
-impl<const STATE: bool> Drop for Window<STATE> {
-    fn drop(self)
-        requires { ⊥ }
-    {
-        let Window { address: _ } = self;
-    }
 }
 
 // Whether an open window writes `command`.
