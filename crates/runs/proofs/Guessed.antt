@@ -14,7 +14,7 @@ use Rattle.refusal.specs.declared.Company.TheVariants.{Alone}
 use Rattle.request.specs.Asked.{asked}
 use Rattle.runs.proofs.Asked.{frame_asked, is_grant}
 use Rattle.runs.proofs.Given.{cells_are}
-use Rattle.runs.proofs.Likened.{judged_alike, life_alike, outcome_alike, reply_alike, result_alike, room_alike, short_alike}
+use Rattle.runs.proofs.Likened.{judged_alike, judged_reads, life_alike, outcome_alike, reply_alike, result_alike, room_alike, short_alike}
 use Rattle.runs.proofs.Single.{finds_unique}
 use Rattle.runs.proofs.Verdicts.{judged_shows, judged_used, reaches, result_grants, result_reaches, right_alike}
 use Rattle.runs.specs.History.{Ran, Turn, frame_asks, frame_before, last_given, request_of, used_by}
@@ -126,8 +126,8 @@ module _ (l m n o : Life) (like : Alike l m) (x y : Outcome) where
       and_from _ _ (ap names in_x ∙ named) (ap (λ z. reached z.result) e_x ∙ result_reaches l (length line) f (judged l f) ∙ reach) in
       sym (ap (right_by l.cells) in_x) ∙ same (or_left _ _ tried) ∙ ap (right_by m.cells) in_y)) in
       joined n o (life_after l (Some f)) (life_after m (Some f)) x y e_n e_o (life_alike l m like f (judged l f) (judged m f) one) e_x e_y
-      (ap of_hearing (result_alike l m like (length line) f (judged l f) ∙ ap (result_by m (length line) f) one))
-      (reply_alike l m like f (judged l f) reply ∙ ap (λ j. reply_by m f j reply) one)
+      (ap of_hearing (result_alike l m like (length line) f (judged l f) (judged_reads l f) ∙ ap (result_by m (length line) f) one))
+      (reply_alike l m like f (judged l f) reply (judged_reads l f) ∙ ap (λ j. reply_by m f j reply) one)
 
   -- one line heard by both
   heard_together : (line reply : List ℕ) (events gaps : ℕ) (b : Bool) → Hears b l line reply x n → Hears b m line reply y o →

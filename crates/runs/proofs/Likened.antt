@@ -1,5 +1,5 @@
 -- Two converters that differ in stored passwords alone: what they answer and become alike.
-use Rattle.std.proofs.Common.{◌≡◌, ℕ, zero, suc, ◌+◌, ◌*◌, ◌≤◌, Bool, true, false, cond, ◌||◌, eqb, ltb, leb, List, [], ◌∷◌, length, take, Some, None, Option, unwrap_or, refl, ap, ◌∙◌, ap₂, subst₂, arith}
+use Rattle.std.proofs.Common.{◌≡◌, ℕ, zero, suc, ◌+◌, ◌*◌, ◌<◌, ◌≤◌, Bool, true, false, cond, ◌||◌, eqb, ltb, leb, List, [], ◌∷◌, length, take, Some, None, Option, unwrap_or, refl, ap, ◌∙◌, ap₂, subst₂, arith}
 use Rattle.access.specs.Decision.{index_past, own, right, unpermitted, unprepared, verdict}
 use Rattle.access.specs.declared.Destination.{Destination}
 use Rattle.access.specs.declared.Destination.TheVariants.{Own, Broadcast, Foreign}
@@ -14,11 +14,12 @@ use Rattle.records.specs.Records.{event_bytes, gap_bytes}
 use Rattle.refusal.specs.Told.{Answer, granted, refused}
 use Rattle.refusal.specs.declared.Company.TheVariants.{Alone}
 use Rattle.request.specs.Asked.{Asked, asked, prepare, change_address, read_address, change_password, permit, readings, write_setpoint, set_speed, set_clock, read_clock, write_marks, read_marks, synchronise, read_setting, clear_log, log_state, log_records, write_configuration, read_configuration, write_output_mask}
-use Rattle.request.specs.Rows.{checked, needs}
+use Rattle.request.specs.Rows.{NumberedRead, checked, is_setting, needs}
 use Rattle.request.specs.Writes.{gives}
-use Rattle.runs.proofs.Verdicts.{ranked_alike, reaches}
+use Rattle.runs.proofs.Verdicts.{ranked, ranked_alike, reaches}
 use Rattle.runs.specs.Passwords.{Alike, right_by, secret}
 use Rattle.std.proofs.lemmas.Bool.{and_right, lt-leb}
+use Rattle.std.proofs.lemmas.Bool.Decides.{nat_tests}
 use Rattle.store.specs.Cells.{span}
 
 -- a cell past the passwords is not secret
@@ -26,14 +27,56 @@ open_cell : (k : ℕ) → 11 ≤ k → secret k ≡ false
 open_cell k h = and_right (leb 3 k) (leb k 10) (lt-leb k 10 (omega arith))
 
 -- neighbouring cells past the passwords
-span_alike : (f g : ℕ → ℕ) → ((k : ℕ) → secret k ≡ false → f k ≡ g k) → (first n : ℕ) → 11 ≤ first → span f first n ≡ span g first n
-span_alike f g h first zero past = refl
-span_alike f g h first (suc n) past = ap₂ ◌∷◌ (h first (open_cell first past)) (span_alike f g h (first + 1) n (omega arith))
+span_alike : (f g : ℕ → ℕ) → ((k : ℕ) → k < 256 → secret k ≡ false → f k ≡ g k) → (first n : ℕ) → 11 ≤ first → first + n ≤ 256 →
+    span f first n ≡ span g first n
+span_alike f g h first zero past within = refl
+span_alike f g h first (suc n) past within =
+    ap₂ ◌∷◌ (h first (omega arith) (open_cell first past)) (span_alike f g h (first + 1) n (omega arith) (omega arith))
 
 -- setpoints and output masks are past the passwords
 setting_past : (b : Bool) (number : ℕ) → 11 ≤ cond b (33 + 8 * number) (161 + 8 * number)
 setting_past true number = omega arith
 setting_past false number = omega arith
+
+-- those that are read stand within the cells
+setting_fits : (number which : ℕ) → is_setting number which ≡ true → setting_cell number which + 8 ≤ 256
+setting_fits number which h = grind (arith, nat_tests)
+
+-- what is checked of a setting that is read
+checked_reads : (address : List ℕ) (a : Asked) → checked address a ≡ true → NumberedRead a
+checked_reads address (read_setting number which) h = h
+checked_reads address a h = tt
+
+-- a granted request that reads a setting was checked
+abbrev pub ReadsWithin : Answer Asked → Type 0
+ReadsWithin (granted a) = NumberedRead a
+ReadsWithin (refused n company) = Unit {0}
+
+ranked_reads : (a : Asked) (p q c i r : Bool) → (c ≡ true → NumberedRead a) → ReadsWithin (ruled a (ranked p q c i r))
+ranked_reads a true q c i r h = tt
+ranked_reads a false true c i r h = tt
+ranked_reads a false false false i r h = tt
+ranked_reads a false false true true r h = tt
+ranked_reads a false false true false true h = h refl
+ranked_reads a false false true false false h = tt
+
+row_reads : (l : Life) (o : Option Asked) → ReadsWithin (in_row l o)
+row_reads l None = tt
+row_reads l (Some a) =
+    ranked_reads a (unprepared l.access (needs a)) (unpermitted l.access (needs a)) (checked (own l.cells) a) (index_past (held_for l a) a)
+    (right l.cells a) (checked_reads (own l.cells) a)
+
+carried_reads : (l : Life) (b : Bool) (o : Option Asked) → ReadsWithin (cond b (in_row l o) (refused 4 Alone))
+carried_reads l true o = row_reads l o
+carried_reads l false o = tt
+
+for_reads : (l : Life) (d : Destination) (command : ℕ) (ps : List ℕ) → ReadsWithin (judged_for l d command ps)
+for_reads l Foreign command ps = tt
+for_reads l Broadcast command ps = carried_reads l (carried command) (asked command ps)
+for_reads l Own command ps = row_reads l (asked command ps)
+
+pub judged_reads : (l : Life) (f : Found) → ReadsWithin (judged l f)
+judged_reads l f = for_reads l (destination l f) f.command f.parameters
 
 module _ (l m : Life) (like : Alike l m) where
   -- the same memory is short
@@ -53,11 +96,11 @@ module _ (l m : Life) (like : Alike l m) where
   destination_alike : (f : Found) → destination l f ≡ destination m f
   destination_alike f =
       ap₂ (λ (a b : ℕ). cond (eqb f.address 0x00FF) Broadcast (cond (eqb f.address (a + 256 * b)) Own Foreign))
-      (like.cells 0 refl) (like.cells 1 refl)
+      (like.cells 0 (omega arith) refl) (like.cells 1 (omega arith) refl)
 
   -- both have one address
   own_alike : own l.cells ≡ own m.cells
-  own_alike = ap₂ (λ (a b : ℕ). a ∷ b ∷ []) (like.cells 0 refl) (like.cells 1 refl)
+  own_alike = ap₂ (λ (a b : ℕ). a ∷ b ∷ []) (like.cells 0 (omega arith) refl) (like.cells 1 (omega arith) refl)
 
   -- as many records are held
   held_alike : (o : Option ℕ) → held_at l o ≡ held_at m o
@@ -65,30 +108,35 @@ module _ (l m : Life) (like : Alike l m) where
   held_alike (Some log) = λ i. cond (is_events log) (held_number (like.events i)) (held_number (like.gaps i))
 
   -- the same data are sent
-  data_alike : (a : Asked) → data_of l a ≡ data_of m a
-  data_alike (prepare key) = refl
-  data_alike (change_address own new) = refl
-  data_alike read_address = refl
-  data_alike (change_password kind old new) = refl
-  data_alike (permit password kind) = refl
-  data_alike (readings mask) = ap (masked (mask_of mask)) like.readings
-  data_alike (write_setpoint number setpoint) = refl
-  data_alike (set_speed code) = refl
-  data_alike (set_clock date season) = refl
-  data_alike (read_clock form) = ap nine_bytes like.time
-  data_alike (write_marks marks) = refl
-  data_alike read_marks = span_alike l.cells m.cells like.cells 11 6 (omega arith)
-  data_alike synchronise = refl
-  data_alike (read_setting number which) =
+  data_alike : (a : Asked) → NumberedRead a → data_of l a ≡ data_of m a
+  data_alike (prepare key) within = refl
+  data_alike (change_address own new) within = refl
+  data_alike read_address within = refl
+  data_alike (change_password kind old new) within = refl
+  data_alike (permit password kind) within = refl
+  data_alike (readings mask) within = ap (masked (mask_of mask)) like.readings
+  data_alike (write_setpoint number setpoint) within = refl
+  data_alike (set_speed code) within = refl
+  data_alike (set_clock date season) within = refl
+  data_alike (read_clock form) within = ap nine_bytes like.time
+  data_alike (write_marks marks) within = refl
+  data_alike read_marks within = span_alike l.cells m.cells like.cells 11 6 (omega arith) (omega arith)
+  data_alike synchronise within = refl
+  data_alike (read_setting number which) within =
       span_alike l.cells m.cells like.cells (setting_cell number which) 8 (setting_past (eqb which 0) number)
-  data_alike (clear_log log password) = refl
-  data_alike (log_state log) = λ i. cond (is_events log) (state_bytes 13 (like.events i)) (state_bytes 9 (like.gaps i))
-  data_alike (log_records log index count) =
+      (setting_fits number which within)
+  data_alike (clear_log log password) within = refl
+  data_alike (log_state log) within = λ i. cond (is_events log) (state_bytes 13 (like.events i)) (state_bytes 9 (like.gaps i))
+  data_alike (log_records log index count) within =
       λ i. cond (is_events log) (sent_bytes 13 event_bytes (held_in (like.events i)) index count) (sent_bytes 9 gap_bytes (held_in (like.gaps i)) index count)
-  data_alike (write_configuration bits events inputs debounce) = refl
-  data_alike read_configuration =
-      λ i. 0 ∷ like.cells 17 refl i ∷ like.cells 18 refl i ∷ 0 ∷ 0 ∷ 0 ∷ like.cells 19 refl i ∷ like.cells 20 refl i ∷ 0 ∷ []
-  data_alike (write_output_mask number mask) = refl
+  data_alike (write_configuration bits events inputs debounce) within = refl
+  data_alike read_configuration within =
+      let event_low = like.cells 17 (omega arith) refl in
+      let event_high = like.cells 18 (omega arith) refl in
+      let inputs = like.cells 19 (omega arith) refl in
+      let debounce = like.cells 20 (omega arith) refl in
+      λ i. 0 ∷ event_low i ∷ event_high i ∷ 0 ∷ 0 ∷ 0 ∷ inputs i ∷ debounce i ∷ 0 ∷ []
+  data_alike (write_output_mask number mask) within = refl
 
   -- the same verdict where the password is as right
   verdict_alike : (a : Asked) (r : Bool) →
@@ -128,22 +176,22 @@ module _ (l m : Life) (like : Alike l m) where
       for_alike (destination l f) f.command f.parameters h ∙ ap (λ d. judged_for m d f.command f.parameters) (destination_alike f)
 
   -- by one decision the same is answered
-  pub result_alike : (line : ℕ) (f : Found) (j : Answer Asked) → result_by l line f j ≡ result_by m line f j
-  result_alike line f (granted a) =
-      λ i. granted (record { used = behind f; reply = reply_length (destination_alike f i) (data_alike a i) })
-  result_alike line f (refused n company) = refl
+  pub result_alike : (line : ℕ) (f : Found) (j : Answer Asked) → ReadsWithin j → result_by l line f j ≡ result_by m line f j
+  result_alike line f (granted a) within =
+      λ i. granted (record { used = behind f; reply = reply_length (destination_alike f i) (data_alike a within i) })
+  result_alike line f (refused n company) within = refl
 
   -- by one decision the same is replied
-  pub reply_alike : (f : Found) (j : Answer Asked) (memory : List ℕ) → reply_by l f j memory ≡ reply_by m f j memory
-  reply_alike f (granted a) memory =
-      λ i. replied (destination_alike f i) f.address (data_alike a i) memory
-  reply_alike f (refused n company) memory = refl
+  pub reply_alike : (f : Found) (j : Answer Asked) (memory : List ℕ) → ReadsWithin j → reply_by l f j memory ≡ reply_by m f j memory
+  reply_alike f (granted a) memory within =
+      λ i. replied (destination_alike f i) f.address (data_alike a within i) memory
+  reply_alike f (refused n company) memory within = refl
 
   -- by one decision, for one destination, both stay alike
   moved_alike : (d : Destination) (j : Answer Asked) → Alike (moved_by l d j) (moved_by m d j)
   moved_alike d (granted a) =
       record {
-        cells = λ k shown. ap (unwrap_or (gives a k)) (like.cells k shown);
+        cells = λ k within shown. ap (unwrap_or (gives a k)) (like.cells k within shown);
         access = ap (standing_for d (granted a)) like.access;
         time = ap (λ t. time_after t a) like.time;
         readings = like.readings;

@@ -1,5 +1,5 @@
 -- What the answers of a run tell of the stored passwords.
-use Rattle.std.specs.Prelude.{◌≡◌, ℕ, Bool, true, false, ◌&&◌, ◌||◌, List, [], ◌∷◌, map, Some, None, Option, ◌==◌, nat_le}
+use Rattle.std.specs.Prelude.{◌≡◌, ℕ, ◌<◌, Bool, true, false, ◌&&◌, ◌||◌, List, [], ◌∷◌, map, Some, None, Option, ◌==◌, nat_le}
 use Rattle.access.specs.Decision.{right}
 use Rattle.converter.specs.Calls.{Call, Grant}
 use Rattle.device.specs.Life.{Life}
@@ -12,9 +12,10 @@ use Rattle.runs.specs.History.{Turn, last_given, request_of}
 abbrev pub secret : ℕ → Bool
 secret k = nat_le 3 k && nat_le k 10
 
--- Two converters differ in stored passwords alone, if at all; all memory of their logs is the same, too.
+-- Two converters differ in stored passwords alone, if at all: all else of the 256 cells is the same, and all
+-- memory of their logs, too.
 pub record Alike (l m : Life) : Type 0 where
-  pub cells : (k : ℕ) → secret k ≡ false → l.cells k ≡ m.cells k
+  pub cells : (k : ℕ) → k < 256 → secret k ≡ false → l.cells k ≡ m.cells k
   pub access : l.access ≡ m.access
   pub time : l.time ≡ m.time
   pub readings : l.readings ≡ m.readings
