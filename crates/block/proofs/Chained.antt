@@ -1,5 +1,6 @@
 -- Laws of blocks one behind another: their length, the first of them, and that they tell their bytes.
 use Rattle.std.proofs.Common.{◌≡◌, ℕ, zero, suc, ◌+◌, ◌-◌, ◌*◌, ◌<◌, ◌≤◌, min, List, [], ◌++◌, length, take, drop, sym, refl, ap, ◌∙◌, subst, arith, length-append, length-drop, take-append-drop, length-take}
+use Rattle.std.specs.Int.{div_ceil}
 use Rattle.block.specs.Block.{Block, sealed}
 use Rattle.block.specs.Chain.{AllRight, block_at, chain, chained, parts}
 use Rattle.block.proofs.Placed.{Step, done, first_part, same_cut}
@@ -121,6 +122,13 @@ cut bytes some =
     let one = length-sealed (take 14 bytes) in
     let taken = length-take 14 bytes in
     first_part 16 (chained bytes) (sealed (take 14 bytes)) (chained (drop 14 bytes)) (chained_more bytes (omega arith)) (omega arith)
+
+-- a check word of two bytes for each block taken away, what is left counts the bytes
+pub count : (blocks bytes : List ℕ) (n : ℕ) → blocks ≡ chained bytes → n ≡ div_ceil (length blocks) 16 →
+    (2 * n ≤ length blocks) × (length blocks - 2 * n ≡ length bytes)
+count blocks bytes n is e =
+    let long = ap length is ∙ length-chained bytes in
+    (omega arith, omega arith)
 
 -- the first 14 bytes stand first
 pub first_bytes : (bytes : List ℕ) → 14 ≤ length bytes → take 14 (chained bytes) ≡ take 14 bytes

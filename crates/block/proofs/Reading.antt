@@ -1,61 +1,121 @@
--- What holds from turn to turn while blocks are checked and read, one part of at most 16 bytes at a time.
-use Rattle.std.proofs.Common.{◌≡◌, ℕ, ◌+◌, ◌-◌, ◌*◌, ◌<◌, ◌≤◌, min, List, ◌++◌, length, take, drop, sym, ap, ◌∙◌, subst, append_assoc, arith, length-drop, take-append-drop, length-take, take-add, below_more}
+-- What holds from turn to turn while blocks are written, checked and read, one part at a time.
+use Rattle.std.proofs.Common.{◌≡◌, ℕ, ◌+◌, ◌-◌, ◌*◌, ◌<◌, ◌≤◌, min, Bool, true, false, not, List, ◌++◌, length, take, drop, Some, None, Option, Decides, IsTrue, MatchOption, IfSome, IsSomeAnd, sym, refl, ap, ◌∙◌, ⊎_elim, subst, append_assoc, arith, length-append, length-drop, take-append-drop, length-take, take-add}
 use borrow.Rule.Slice.PartMut.{put_mid}
+use denote.Ref.{Bor}
+use Rattle.std.specs.Fn.{Called, Mut}
+use Rattle.std.specs.Iterator.Runs.{AllItemsGive, CallKeepsClosure, EveryRun, IsChunksRun, IsFirstToGive, Run, SomeRun, YieldsRun}
+use Rattle.std.specs.List.{IsSubsliceAt}
+use Rattle.std.specs.Slice.Iter.{chunks_rest, chunks_size, chunks_steps}
 use Rattle.block.specs.Block.{Block, sealed}
 use Rattle.block.specs.Chain.{AllRight, FirstWrong, block_at, chained}
-use Rattle.block.proofs.Chained.{length-chained, split}
-use Rattle.block.proofs.Placed.{first_part}
+use Rattle.block.proofs.Chained.{coming, coming_fits, length-chained, nothing_coming, split}
+use Rattle.block.proofs.Placed.{Step, first_part, step}
 use Rattle.block.proofs.Sealed.{front, length-sealed}
+use Rattle.std.proofs.lemmas.Bool.{false≢true}
 use Rattle.std.proofs.lemmas.List.{drop_at, drop-drop, length-take-le, take_all, take_at}
+use Rattle.std.proofs.lemmas.Option.{slice_get_cases}
 
 -- the next part of what is left
 abbrev pub Part : ℕ → List ℕ → List ℕ → List ℕ → Type 0
 Part n left x rest = (left ≡ x ++ rest) × (length x ≡ min n (length left)) × (0 < length left)
 
--- the first k blocks are right
-pub record Checked (blocks : List ℕ) (n k : ℕ) (left : List ℕ) : Type 0 where
-  pub size : n ≡ 16
-  pub from : left ≡ drop (16 * k) blocks
-  pub right : (j : ℕ) → j < k → Block (block_at blocks j)
+-- the item of a run at a place before its end
+pub item : {S A : Type 0} {steps : S → Option A → S → Type 0} (p : Run steps) (k : ℕ) → k < p.len → (x : A) × (p.at k ≡ Some x)
+unfolding YieldsRun
+item p k h = ⊎_elim (λ f. (f.0, p.gave.1 k ∙ f.2)) (λ past. absurd (omega (arith, p.long))) (slice_get_cases p.items k).1
 
-pub none_checked : (blocks : List ℕ) {n k : ℕ} {left : List ℕ} → n ≡ 16 → k ≡ 0 → left ≡ blocks → Checked blocks n k left
-none_checked blocks {n} {k} {left} e z is =
-    record {
-      size = e;
-      from = is ∙ ap (λ (i : ℕ). drop (16 * i) blocks) (sym z);
-      right = λ j h. absurd (omega arith);
-    }
+-- a run over the parts of at most 16 bytes of these blocks
+pub parts_of : {s : _} {blocks : List ℕ} →
+    EveryRun (chunks_steps {A = ℕ}) (λ p. 0 < chunks_size p.from → IsChunksRun p (chunks_size p.from) (chunks_rest p.from)) →
+    chunks_size s ≡ 16 → chunks_rest s ≡ blocks → (p : Run (chunks_steps {A = ℕ})) → p.from ≡ s → IsChunksRun p 16 blocks
+parts_of {s} {blocks} runs size rest p from =
+    let n : chunks_size p.from ≡ 16 = ap chunks_size from ∙ size in
+    let l : chunks_rest p.from ≡ blocks = ap chunks_rest from ∙ rest in
+    let N : ℕ → Type 0 = λ m. IsChunksRun p m (chunks_rest p.from) in
+    let L : List ℕ → Type 0 = λ bytes. IsChunksRun p 16 bytes in
+    subst L l (subst N n (runs p p.seen (omega arith)))
 
-module _ {blocks left : List ℕ} {n k : ℕ} (so_far : Checked blocks n k left) where
-  this_block : {x rest : List ℕ} → Part n left x rest → (x ≡ block_at blocks k) × (rest ≡ drop (16 * (k + 1)) blocks)
-  this_block {x} {rest} (is, long, some) =
-      let p = first_part 16 left x rest is (long ∙ ap (λ (m : ℕ). min m (length left)) so_far.size) in
-      let step : 16 * k + 16 ≡ 16 * (k + 1) = omega arith in (
-        sym p.0 ∙ ap (take 16) so_far.from,
-        sym p.1 ∙ ap (drop 16) so_far.from ∙ drop-drop 16 (16 * k) blocks ∙ ap (λ (m : ℕ). drop m blocks) step,
-      )
+module _ {F : Type 0} {g : Mut F (Bor (List ℕ) × Unit {0}) Bool} {f : F} (blocks : List ℕ)
+    (told : (a : Bor (List ℕ) × Unit {0}) (b : Bool) (f' : F) → Called g f a b f' → (f' ≡ f) × Decides (not b) (Block a.0.now))
+    (p : Run (chunks_steps {A = ℕ})) (chunks : IsChunksRun p 16 blocks) where
+  at_place : (k : ℕ) (x : Bor (List ℕ)) → p.at k ≡ Some x → (x.now ≡ block_at blocks k) × (16 * k < length blocks)
+  at_place k x e =
+      let C : Option (Bor (List ℕ)) → Type 0 =
+      λ o. IfSome o (λ y. (0 < length y.now) × (k * 16 < length blocks) × IsSubsliceAt 16 blocks (k * 16) y.now) in
+      let c : C (Some x) = subst C e (chunks.2 k) in
+      let place : k * 16 ≡ 16 * k = omega arith in
+      (c.2.0 ∙ ap (λ (n : ℕ). take 16 (drop n blocks)) place, omega (arith, c.1))
 
-  pub one_more_checked : {x rest : List ℕ} {n' k' : ℕ} → Part n left x rest → Block x → n' ≡ n → k' ≡ k + 1 → Checked blocks n' k' rest
-  one_more_checked part right e more =
-      let p = this_block part in
+  keeps : CallKeepsClosure g f
+  keeps a b f' c = (told a b f' c).0
+
+  all_right : p.whole ≡ true → AllItemsGive p g f false → AllRight blocks
+  all_right whole gives k h =
+      let i = item p k (omega (arith, chunks.1 whole)) in
+      let G : Option (Bor (List ℕ)) → Type 0 = λ o. IfSome o (λ x. Called g f (x, tt) false f) in
+      let called : G (Some i.0) = subst G i.1 (gives keeps k) in
+      subst Block (at_place k i.0 i.1).0 ((told (i.0, tt) false f called).1.0 refl)
+
+  wrong_at : (k : ℕ) → p.len ≡ k + 1 → IsFirstToGive p g f true false k → FirstWrong blocks k
+  wrong_at k long gives =
+      let i = item p k (omega arith) in
+      let here = at_place k i.0 i.1 in
+      let G : Option (Bor (List ℕ)) → Type 0 = λ o. IsSomeAnd o (λ x. Called g f (x, tt) true f) in
+      let called : G (Some i.0) = subst G i.1 (gives keeps).0 in
       record {
-        size = e ∙ so_far.size;
-        from = p.1 ∙ ap (λ (i : ℕ). drop (16 * i) blocks) (sym more);
-        right = λ j h. below_more (λ i. Block (block_at blocks i)) k so_far.right (subst Block p.0 right) j (omega arith);
+        within = here.1;
+        wrong = λ block. absurd (false≢true ((told (i.0, tt) true f called).1.1 (subst Block (sym here.0) block)));
+        before = λ j h.
+            let i' = item p j (omega arith) in
+            let G' : Option (Bor (List ℕ)) → Type 0 = λ o. IsSomeAnd o (λ x. Called g f (x, tt) false f) in
+            let called' : G' (Some i'.0) = subst G' i'.1 ((gives keeps).1 j h) in
+            subst Block (at_place j i'.0 i'.1).0 ((told (i'.0, tt) false f called').1.0 refl);
       }
 
-  pub wrong_found : {x : List ℕ} {i : ℕ} (rest : List ℕ) → Part n left x rest → (Block x → ⊥) → i ≡ k → FirstWrong blocks i
-  wrong_found {i = i} rest part wrong e =
-      let p = this_block part in
-      let here : block_at blocks i ≡ _ = ap (block_at blocks) e ∙ sym p.0 in
+-- what a search for the first wrong block answers
+pub found : {F : Type 0} {g : Mut F (Bor (List ℕ) × Unit {0}) Bool} {f : F} (blocks : List ℕ) {s : _} (r : Option ℕ) →
+    SomeRun (chunks_steps {A = ℕ}) s
+    (λ p. MatchOption r (IsTrue p.whole × AllItemsGive p g f false) (λ k. (p.len ≡ k + 1) × IsFirstToGive p g f true false k)) →
+    ((p : Run (chunks_steps {A = ℕ})) → p.from ≡ s → IsChunksRun p 16 blocks) →
+    ((a : Bor (List ℕ) × Unit {0}) (b : Bool) (f' : F) → Called g f a b f' → (f' ≡ f) × Decides (not b) (Block a.0.now)) →
+    MatchOption r (AllRight blocks) (λ k. FirstWrong blocks k)
+found blocks None (p, from, ends) parts told = all_right blocks told p (parts p from) ends.0 ends.1
+found blocks (Some k) (p, from, ends) parts told = wrong_at blocks told p (parts p from) k ends.0 ends.1
+
+-- the first k blocks are written, and the others are those of the bytes left
+pub record Put (bytes entry out left : List ℕ) (n k : ℕ) : Type 0 where
+  pub size : n ≡ 14
+  pub at : ℕ
+  pub step : Step at out entry (chained bytes) (chained left)
+  pub place : 0 < length left → at ≡ 16 * k
+
+module _ {bytes entry out left : List ℕ} {n k : ℕ} (so_far : Put bytes entry out left n k) (room : length (chained bytes) ≤ length out)
+    (i : ℕ) (at_k : i ≡ k) where
+  this_put : (x rest : List ℕ) → Part n left x rest → Step (16 * i) out entry (chained bytes) (sealed x ++ chained rest)
+  this_put x rest part =
+      let S : ℕ → Type 0 = λ at. Step at out entry (chained bytes) (sealed x ++ chained rest) in
+      let place : so_far.at ≡ 16 * i = so_far.place part.2 ∙ ap (λ (m : ℕ). 16 * m) (sym at_k) in
+      subst S place (coming x rest so_far.step so_far.size part)
+
+  pub put_fits : (x rest : List ℕ) → Part n left x rest → 16 * i + (length x + 2) ≤ length out
+  put_fits x rest part = coming_fits x (chained rest) (this_put x rest part) room
+
+  pub one_more_put : (x rest block : List ℕ) (m : ℕ) {n' k' : ℕ} → Part n left x rest → m ≡ length x + 2 → n' ≡ n → k' ≡ k + 1 →
+      block ≡ sealed x ++ drop m (take (length out - 16 * i) (drop (16 * i) out)) →
+      Put bytes entry (put_mid (16 * i) (length out - 16 * i) out block) rest n' k'
+  one_more_put x rest block m part e same more is =
+      let long : m ≡ length (sealed x) = e ∙ sym (length-sealed x) in
+      let sum = ap length part.0 ∙ length-append x rest in
       record {
-        within = omega (arith, part.2, ap length so_far.from, length-drop (16 * k) blocks);
-        wrong = λ b. wrong (subst Block here b);
-        before = λ j h. so_far.right j (omega arith);
+        size = same ∙ so_far.size;
+        at = 16 * i + m;
+        step = step (16 * i) m out entry (chained bytes) (sealed x) (chained rest) block (this_put x rest part) long room is;
+        place = λ some. omega (arith, part.1, so_far.size);
       }
 
-  pub all_checked : length left ≡ 0 → AllRight blocks
-  all_checked none j h = so_far.right j (omega (arith, ap length so_far.from, length-drop (16 * k) blocks))
+pub all_put : {bytes entry out left : List ℕ} {n k : ℕ} → Put bytes entry out left n k → length left ≡ 0 →
+    out ≡ chained bytes ++ drop (length (chained bytes)) entry
+all_put {left = left} so_far none = (nothing_coming left so_far.step none).1
 
 -- as many elements as the shorter of 14 and the whole are the first 14
 same_ends : (m : ℕ) (l : List ℕ) → m ≡ min 14 (length l) → (take m l ≡ take 14 l) × (drop m l ≡ drop 14 l)
@@ -87,7 +147,7 @@ module _ {bytes entry out left : List ℕ} {at n : ℕ} (so_far : Taken bytes en
       let d = length-drop at bytes in
       (omega arith, omega arith)
 
-  pub one_more_taken : (x rest part : List ℕ) (m k : ℕ) → Part n left x rest → m ≡ length x - 2 → k ≡ m → part ≡ take (m - 0) x →
+  pub one_more_taken : (x rest part : List ℕ) (m k : ℕ) → Part n left x rest → m ≡ length x - 2 → k ≡ m → part ≡ take m x →
       Taken bytes entry (at + m) (put_mid at k out part) rest
   one_more_taken x rest part m k p e same_k is =
       let t = this_taken x rest p in
@@ -96,7 +156,7 @@ module _ {bytes entry out left : List ℕ} {at n : ℕ} (so_far : Taken bytes en
       let ly = length-take 14 (drop at bytes) in
       let ld = length-drop at bytes in
       let long : length y ≡ m = omega (arith, ap length t.0 ∙ length-sealed y) in
-      let part_is : part ≡ y = is ∙ ap (λ (i : ℕ). take i x) (omega arith) ∙ ap (take m) t.0 ∙ front y m long in
+      let part_is : part ≡ y = is ∙ ap (take m) t.0 ∙ front y m long in
       let same = same_ends m (drop at bytes) (omega arith) in
       let lt : length (take at bytes) ≡ at = length-take-le at bytes w in
       let f : take at out ≡ take at bytes = ap (take at) so_far.written ∙ take_at (take at bytes) (drop at entry) at lt in
@@ -120,3 +180,33 @@ module _ {bytes entry out left : List ℕ} {at n : ℕ} (so_far : Taken bytes en
       let all = take_all at bytes (omega arith) in
       let written = so_far.written in
       (long, cc)
+
+-- the bytes of the first k blocks are written
+pub record TakenFrom (bytes entry out left : List ℕ) (k : ℕ) : Type 0 where
+  pub at : ℕ
+  pub taken : Taken bytes entry at out left
+  pub place : 0 < length left → at ≡ 14 * k
+
+module _ {bytes entry out left : List ℕ} {k n : ℕ} (so_far : TakenFrom bytes entry out left k) (size : n ≡ 16) (i : ℕ) (at_k : i ≡ k) where
+  at_block : 0 < length left → Taken bytes entry (14 * i) out left
+  at_block some =
+      let T : ℕ → Type 0 = λ at. Taken bytes entry at out left in
+      subst T (so_far.place some ∙ ap (λ (m : ℕ). 14 * m) (sym at_k)) so_far.taken
+
+  pub next_long : (x rest : List ℕ) → Part n left x rest → (2 ≤ length x) × (14 * i + (length x - 2) ≤ length bytes)
+  next_long x rest part = this_long (at_block part.2) size x rest part
+
+  pub next_taken : (x rest part : List ℕ) (m c : ℕ) {k' : ℕ} → Part n left x rest → k' ≡ k + 1 → m ≡ length x - 2 → c ≡ m → part ≡ take m x →
+      TakenFrom bytes entry (put_mid (14 * i) c out part) rest k'
+  next_taken x rest part m c p more e same is =
+      let sum = ap length p.0 ∙ length-append x rest in
+      let long = next_long x rest p in
+      record {
+        at = 14 * i + m;
+        taken = one_more_taken (at_block p.2) size x rest part m c p e same is;
+        place = λ some. omega (arith, p.1, size);
+      }
+
+pub all_read : {bytes entry out left : List ℕ} {k n : ℕ} → TakenFrom bytes entry out left k → n ≡ 16 → length left ≡ 0 →
+    out ≡ bytes ++ drop (length bytes) entry
+all_read so_far size none = (all_taken so_far.taken size none).1

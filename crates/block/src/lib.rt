@@ -8,6 +8,9 @@ pub mod chain;
 
 use check_word::check_word;
 
+// The bytes at the head of every frame.
+pub const HEAD: [u8; 2] = [0x05, 0x64];
+
 // Writes the block of `bytes` at the start of `out`, and tells how long it is.
 pub fn put_block(out: &mut [u8], bytes: &[u8]) -> usize
     requires { length bytes.now + 2 ≤ length out.old }
@@ -15,10 +18,8 @@ pub fn put_block(out: &mut [u8], bytes: &[u8]) -> usize
     ensures written { out.new ≡ sealed bytes.now ++ drop (length bytes.now + 2) out.old }
 {
     let n = bytes.len();
-    let word = check_word(bytes);
-    out[0..n].copy_from_slice(bytes);
-    out[n] = (word / 256) as u8;
-    out[n + 1] = (word % 256) as u8;
+    out[..n].copy_from_slice(bytes);
+    out[n..n + 2].copy_from_slice(&check_word(bytes).to_be_bytes());
     n + 2
 }
 
@@ -26,12 +27,10 @@ pub fn put_block(out: &mut [u8], bytes: &[u8]) -> usize
 pub fn is_block(bytes: &[u8]) -> bool
     ensures { Decides result (Block bytes.now) }
 {
-    if bytes.len() < 2 {
+    let Some((covered, told)) = bytes.split_last_chunk() else {
         return false;
-    }
-    let n = bytes.len() - 2;
-    let told = 256 * u16::from(bytes[n]) + u16::from(bytes[n + 1]);
-    told == check_word(&bytes[0..n])
+    };
+    u16::from_be_bytes(*told) == check_word(covered)
 }
 
 // The bytes that the check word of an opening covers.
@@ -40,9 +39,8 @@ fn covered(data_len: u8, address: u16, ten: &[u8; 10]) -> [u8; 14]
 {
     let mut covered = [0u8; 14];
     covered[0] = data_len;
-    covered[2] = (address % 256) as u8;
-    covered[3] = (address / 256) as u8;
-    covered[4..14].copy_from_slice(ten);
+    covered[2..4].copy_from_slice(&address.to_le_bytes());
+    covered[4..].copy_from_slice(ten);
     covered
 }
 
@@ -52,7 +50,6 @@ pub fn put_opening(out: &mut [u8], data_len: u8, address: u16, ten: &[u8; 10])
     ensures { out.new ≡ opening data_len address ten.now ++ drop 18 out.old }
 {
     let covered = covered(data_len, address, ten);
-    out[0] = 0x05;
-    out[1] = 0x64;
-    let _ = put_block(&mut out[2..], &covered);
+    out[..2].copy_from_slice(&HEAD);
+    put_block(&mut out[2..], &covered);
 }

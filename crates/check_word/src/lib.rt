@@ -42,18 +42,15 @@ fn remainder(table: &[u16; 256], byte: u8) -> u16
 fn take_byte(register: u16, byte: u8) -> u16
     ensures { result ≡ byte_in register byte }
 {
-    let high = (register / 256) as u8;
-    let low = register % 256;
-    remainder(&REMAINDERS, high ^ byte) ^ (low * 256)
+    let [high, low] = register.to_be_bytes();
+    remainder(&REMAINDERS, high ^ byte) ^ u16::from_be_bytes([low, 0])
 }
 
 // The check word of `bytes`.
 pub fn check_word(bytes: &[u8]) -> u16
     ensures { result ≡ check_word bytes.now }
 {
-    let mut register = 0;
-    for byte in bytes {
-        register = take_byte(register, *byte);
-    }
-    u16::MAX - register
+    !bytes
+        .iter()
+        .fold(0, |register, byte| take_byte(register, *byte))
 }

@@ -1,7 +1,9 @@
 -- What holds from character to character while a text is read.
 use Rattle.std.proofs.Common.{◌≡◌, ℕ, ◌+◌, ◌<◌, ◌≤◌, List, [], ◌∷◌, ◌++◌, length, get_or, drop, IfSome, Some, None, Ok, Err, Option, Result, sym, refl, ap, ◌∙◌, subst, append_assoc, append-nil}
 use Rattle.hex_text.specs.declared.Fault.{Fault}
+use Rattle.hex_text.specs.declared.Fault.TheVariants.{HalfPair}
 use Rattle.hex_text.specs.declared.Mark.{Mark}
+use Rattle.hex_text.specs.declared.Mark.TheVariants.{Blank, Comment, Digit, Other}
 use Rattle.hex_text.specs.Text.{after, mark_of, next, says}
 use Rattle.std.proofs.lemmas.List.{at_drop_all, at_drop_more}
 
@@ -14,9 +16,6 @@ pub record Sofar (text old : List ℕ) (high : Option ℕ) (i : ℕ) (items : Li
 pub after_none : (o : Result (List ℕ) Fault) → o ≡ after [] o
 after_none (Ok bytes) = refl
 after_none (Err fault) = refl
-
-pub start : (text old : List ℕ) → Sofar text old None 0 old
-start text old = record { done = []; put = sym (append-nil old); rest = after_none (says None 1 text); small = tt }
 
 after_after : (a b : List ℕ) (o : Result (List ℕ) Fault) → after a (after b o) ≡ after (a ++ b) o
 after_after a b (Ok bytes) = ap Ok (sym (append_assoc a b bytes))
@@ -31,6 +30,13 @@ says_next (Some high) column c text = refl
 -- what the character at place i, marked m, makes of the text behind it
 abbrev pub onward : List ℕ → ℕ → Option ℕ → Mark → Result (List ℕ) Fault
 onward text i high m = next high (i + 1) m (says None (i + 1 + 1) (drop (i + 1) text)) (λ d. says (Some d) (i + 1 + 1) (drop (i + 1) text))
+
+-- what is no digit leaves half a pair
+pub half : (text : List ℕ) (i high : ℕ) (m : Mark) → ((d : ℕ) → m ≡ Digit d → ⊥) → onward text i (Some high) m ≡ Err (HalfPair (i + 1))
+half text i high Blank none = refl
+half text i high Comment none = refl
+half text i high (Digit d) none = absurd (none d refl)
+half text i high Other none = refl
 
 module _ {text old items : List ℕ} {high : Option ℕ} {i : ℕ} (so_far : Sofar text old high i items) where
   marked : {m : Mark} → i < length text → m ≡ mark_of (get_or text i 0) → says None 1 text ≡ after so_far.done (onward text i high m)

@@ -6,7 +6,7 @@ ghost use Rattle.hex_text.specs.declared.Fault.TheVariants.{Memory};
 ghost use Rattle.hex_text.specs.Text.{Reads, Small, mark_of};
 
 use std::alloc::AllocFailed;
-use std::fmt;
+use thiserror::Error;
 
 // What a character of the text is.
 #[derive(Clone, Copy, PartialEq, Eq, Debug)]
@@ -18,16 +18,20 @@ pub enum Mark {
 }
 
 // What is wrong with a line of text.
-#[derive(Clone, Copy, PartialEq, Eq, Debug)]
+#[derive(Clone, Copy, PartialEq, Eq, Debug, Error)]
 pub enum Fault {
     // No hexadecimal digit, blank or `#`; columns count from 1.
+    #[error("column {column}: expected a hexadecimal digit, a blank or `#`")]
     NoDigit { column: usize },
     // One digit without its second.
+    #[error("column {column}: expected the second digit of a pair")]
     HalfPair { column: usize },
     // No memory for the bytes.
+    #[error("no memory for the bytes")]
     Memory,
 }
 
+// Stays: the clause of `read_line` names the fault that `?` makes, and a derived `From` says nothing of it.
 impl<T: Drop> From<AllocFailed<T>> for Fault {
     ghost from_gives = { λ _ r. r ≡ Memory };
 
@@ -36,23 +40,8 @@ impl<T: Drop> From<AllocFailed<T>> for Fault {
     }
 }
 
-impl fmt::Display for Fault {
-    fn fmt<W: fmt::Write>(&self, f: &mut fmt::Formatter<W>) -> fmt::Result {
-        match *self {
-            Fault::NoDigit { column } => write!(
-                f,
-                "column {column}: expected a hexadecimal digit, a blank or `#`"
-            ),
-            Fault::HalfPair { column } => write!(
-                f,
-                "column {column}: expected the second digit of a pair"
-            ),
-            Fault::Memory => write!(f, "no memory for the bytes"),
-        }
-    }
-}
-
 // What the character `c` is.
+// Stays: `Mark::from(c)` says less than this name.
 pub fn classify(c: u8) -> Mark
     ensures value { result ≡ mark_of c }
     ensures bound { Small result }
@@ -60,10 +49,9 @@ pub fn classify(c: u8) -> Mark
     match c {
         b' ' | b'\t' | b'\r' => Mark::Blank,
         b'#' => Mark::Comment,
-        b'0'..=b'9' => Mark::Digit(c - b'0'),
-        b'a'..=b'f' => Mark::Digit(c - b'a' + 10),
-        b'A'..=b'F' => Mark::Digit(c - b'A' + 10),
-        _ => Mark::Other,
+        _ => char::from(c)
+            .to_digit(16)
+            .map_or(Mark::Other, |digit| Mark::Digit(digit as u8)),
     }
 }
 
@@ -72,21 +60,24 @@ pub fn read_line(text: &[u8], out: &mut Vec<u8>) -> Result<(), Fault>
     ensures { Reads text.now out.old.items out.new.items result }
 {
     let mut high = None;
+    // Stays: the number of a character is its column, which a fault tells.
     for (i, c) in text.iter().enumerate() {
-        match (high, classify(*c)) {
-            (None, Mark::Blank) => {}
-            (None, Mark::Comment) => return Ok(()),
-            (None, Mark::Digit(d)) => high = Some(d),
-            (None, Mark::Other) => return Err(Fault::NoDigit { column: i + 1 }),
-            (Some(h), Mark::Digit(d)) => {
-                out.push(16 * h + d)?;
-                high = None;
+        match high.take() {
+            None => match classify(*c) {
+                Mark::Blank => {}
+                Mark::Comment => return Ok(()),
+                Mark::Digit(first) => high = Some(first),
+                Mark::Other => return Err(Fault::NoDigit { column: i + 1 }),
+            },
+            Some(first) => {
+                let Mark::Digit(second) = classify(*c) else {
+                    return Err(Fault::HalfPair { column: i + 1 });
+                };
+                out.push(16 * first + second)?;
             }
-            (Some(_), Mark::Blank) => return Err(Fault::HalfPair { column: i + 1 }),
-            (Some(_), Mark::Comment) => return Err(Fault::HalfPair { column: i + 1 }),
-            (Some(_), Mark::Other) => return Err(Fault::HalfPair { column: i + 1 }),
         }
     }
+    // Stays: here the empty `Option` is the good case, the other way round than `ok_or` takes it.
     match high {
         None => Ok(()),
         Some(_) => Err(Fault::HalfPair {

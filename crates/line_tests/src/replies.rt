@@ -79,23 +79,19 @@ const ADDRESS: u16 = 0x0112;
 // 3, 10, 17, … modulo 256
 fn payload() -> [u8; 252] {
     let mut bytes = [0u8; 252];
-    let mut next: u8 = 3;
-    for byte in bytes.iter_mut() {
-        *byte = next;
-        next = next.wrapping_add(7);
+    for (byte, place) in bytes.iter_mut().zip(0u8..252) {
+        *byte = place.wrapping_mul(7).wrapping_add(3);
     }
     bytes
 }
 
 fn sum(bytes: &[u8]) -> u32 {
-    let mut all: u32 = 0;
-    for byte in bytes {
-        all = all.wrapping_add(u32::from(*byte));
-    }
-    all
+    bytes
+        .iter()
+        .fold(0, |all: u32, byte| all.wrapping_add(u32::from(*byte)))
 }
 
-// The data of a reply as it is read: at least ten bytes.
+// The data of a reply as it is read: at least ten bytes, the missing ones 0, and behind them what was there.
 fn read_back(rt: &impl Abort, frame: &[u8], count: usize, bytes: &[u8; 252]) {
     let mut memory = [0xddu8; 260];
     let length = count.max(10);
@@ -106,14 +102,11 @@ fn read_back(rt: &impl Abort, frame: &[u8], count: usize, bytes: &[u8; 252]) {
             length,
         })
     );
-    for (i, byte) in memory.iter().enumerate() {
-        let read = if i < count {
-            bytes.get(i).copied().unwrap_or(0)
-        } else {
-            0
-        };
-        assert_eq!(rt; *byte, if i < length { read } else { 0xdd });
-    }
+    assert!(rt; count <= 252);
+    let mut expected = [0xddu8; 260];
+    expected[..length].fill(0);
+    expected[..count].copy_from_slice(&bytes[..count]);
+    assert_eq!(rt; memory, expected);
 }
 
 #[test]

@@ -49,6 +49,7 @@ fn check_words(rt: HostRuntime) {
 
 struct Case {
     address: u16,
+    // Stays: commands are the bytes of frames that were worked out elsewhere.
     command: u8,
     parameters: [u8; 9],
     frame: [u8; 18],
@@ -118,6 +119,7 @@ fn written_and_found(rt: HostRuntime) -> Result<(), Fail> {
 #[test]
 fn damaged(rt: HostRuntime) {
     for case in &CASES {
+        // Stays: this runs over the places of the byte that is changed in a copy, and not over the bytes.
         for i in 0..18 {
             let mut line = case.frame;
             line[i] ^= 0x10;

@@ -8,13 +8,14 @@ ghost use Rattle.reply_frame.specs.Reading.{GivesBack, Reads};
 ghost use Rattle.reply_frame.specs.Replies.{ReadsAs, data_len, filled, fits, on_line, reply, shaped};
 
 use block::chain::{first_wrong, put_blocks, take_bytes};
-use block::put_opening;
+use block::{HEAD, put_opening};
 use refusal::Refusal;
 
 // The most data bytes that a reply carries.
 pub const MOST_DATA: usize = 251;
 
 // What a reply read tells besides its data: who sent it, and how many data bytes there are.
+// Stays: the data lie in the caller's own memory, since the line has no heap, so their number comes beside it.
 #[derive(Clone, Copy, PartialEq, Eq, Debug)]
 pub struct Reply {
     pub address: u16,
@@ -26,7 +27,7 @@ fn on_line(data_len: usize) -> usize
     requires { data_len ≤ 255 }
     ensures { result ≡ on_line data_len }
 {
-    2 + (data_len + 2 * ((data_len + 13) / 14))
+    2 + data_len + 2 * data_len.div_ceil(14)
 }
 
 // At most ten bytes, filled with zeros to ten.
@@ -35,7 +36,7 @@ fn fill(first: &[u8]) -> [u8; 10]
     ensures { result ≡ filled first.now }
 {
     let mut ten = [0u8; 10];
-    ten[0..first.len()].copy_from_slice(first);
+    ten[..first.len()].copy_from_slice(first);
     ten
 }
 
@@ -55,7 +56,7 @@ pub fn write_reply(out: &mut [u8], address: u16, payload: &[u8]) -> Result<usize
     }
     let (first, rest) = payload.split_at(payload.len().min(10));
     put_opening(out, data_len as u8, address, &fill(first));
-    let _ = put_blocks(&mut out[18..], rest);
+    put_blocks(&mut out[18..], rest);
     Ok(length)
 }
 
@@ -64,8 +65,7 @@ fn is_shaped(bytes: &[u8]) -> bool
     ensures { result ≡ shaped bytes.now }
 {
     bytes.len() >= 18
-        && bytes[0] == 0x05
-        && bytes[1] == 0x64
+        && bytes.starts_with(&HEAD)
         && bytes[2] >= 14
         && bytes[3] == 0
         && bytes.len() == on_line(bytes[2] as usize)
@@ -86,8 +86,8 @@ pub fn read_reply(bytes: &[u8], payload: &mut [u8]) -> Result<Reply, Refusal>
     if payload.len() < length {
         return Err(Refusal::NoRoom);
     }
-    payload[0..10].copy_from_slice(&bytes[6..16]);
-    let _ = take_bytes(&mut payload[10..], &bytes[18..]);
-    let address = u16::from(bytes[4]) + 256 * u16::from(bytes[5]);
+    payload[..10].copy_from_slice(&bytes[6..16]);
+    take_bytes(&mut payload[10..], &bytes[18..]);
+    let address = u16::from_le_bytes([bytes[4], bytes[5]]);
     Ok(Reply { address, length })
 }

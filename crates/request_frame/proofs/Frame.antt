@@ -1,8 +1,10 @@
 -- Laws of a request's 18 bytes: its length, its fields, and the test that tells it.
-use Rattle.std.proofs.Common.{◌≡◌, ℕ, ◌+◌, ◌-◌, ◌*◌, ◌/◌, ◌%◌, ◌<◌, Bool, true, false, List, ◌∷◌, length, get_or, take, drop, Decides, sym, ap, ◌∙◌, subst, arith, length-drop, length-take}
+use Rattle.std.proofs.Common.{◌≡◌, ℕ, ◌+◌, ◌*◌, ◌/◌, ◌%◌, ◌<◌, ◌≤◌, Bool, true, false, ◌&&◌, ◌==◌, nat_eq, List, [], ◌∷◌, length, get_or, take, drop, Decides, sym, ap, ◌∙◌, subst, arith, length-drop, length-take}
 use Rattle.block.proofs.Sealed.{front, slice_index-sealed, length-sealed}
 use Rattle.block.specs.Block.{Block, sealed}
 use Rattle.request_frame.specs.Requests.{ReadsAs, Requests, Valid, headed, request, window}
+use Rattle.std.specs.Cmp.Lexicographic.{pointwise}
+use Rattle.std.proofs.lemmas.Bool.Decides.{nat_tests}
 use Rattle.std.proofs.lemmas.List.{drop_more, drop-take, length-take-le, take_all}
 use Rattle.std.proofs.lemmas.Bool.{and_from, and_parts, both_ways, eq-eqb, eqb-true, false≢true}
 
@@ -104,23 +106,31 @@ fields frame (address, command, parameters, q) =
     let r = reading frame address command parameters q in
     moved q r.address_is r.command_is r.parameters_are
 
+headed_four : (a b c d : ℕ) → nat_eq 5 a && (nat_eq 100 b && (nat_eq 0 c && (nat_eq 0 d && true)))
+    ≡ (a == 5 && (b == 100 && (c == 0 && d == 0)))
+headed_four a b c d = grind (arith, nat_tests)
+
 -- the test that tells a valid request: its length, its first four bytes, and the block behind the head
-pub decides : (frame : List ℕ) (r : Bool) → length frame ≡ 18 → headed frame ≡ true → Decides r (Block (take 16 (drop 2 frame))) →
-    get_or frame 4 0 < 256 → get_or frame 5 0 < 256 → Decides r (Valid frame)
-decides frame r long head block low high = (
-  (λ t. (_, _, _, requests frame long head (block.0 t) low high)),
-  (λ v. block.1 (reading frame v.0 v.1 v.2 v.3).block),
+pub decides : (frame behind : List ℕ) (r : Bool) → length frame ≡ 18 → headed frame ≡ true → behind ≡ take 16 (drop 2 frame) →
+    Decides r (Block behind) → get_or frame 4 0 < 256 → get_or frame 5 0 < 256 → Decides r (Valid frame)
+decides frame behind r long head is block low high = (
+  (λ t. (_, _, _, requests frame long head (subst Block is (block.0 t)) low high)),
+  (λ v. block.1 (subst Block (sym is) (reading frame v.0 v.1 v.2 v.3).block)),
 )
+
+-- the test of the first four bytes, in one go
+pub headed_by : (frame : List ℕ) → 4 ≤ length frame → pointwise nat_eq (5 ∷ 100 ∷ 0 ∷ 0 ∷ []) (take 4 frame) ≡ headed frame
+headed_by [] h = absurd (omega arith)
+headed_by (a ∷ []) h = absurd (omega arith)
+headed_by (a ∷ b ∷ []) h = absurd (omega arith)
+headed_by (a ∷ b ∷ c ∷ []) h = absurd (omega arith)
+headed_by (a ∷ b ∷ c ∷ d ∷ rest) h = headed_four a b c d
 
 pub not_long : (frame : List ℕ) → (length frame ≡ 18 → ⊥) → Decides false (Valid frame)
 not_long frame n = ((λ t. absurd (false≢true t)), (λ v. absurd (n (reading frame v.0 v.1 v.2 v.3).long)))
 
 pub not_headed : (frame : List ℕ) → headed frame ≡ false → Decides false (Valid frame)
 not_headed frame n = ((λ t. absurd (false≢true t)), (λ v. absurd (both_ways _ n (reading frame v.0 v.1 v.2 v.3).head)))
-
--- the part of a line that is looked at is the 18 bytes from its place on
-pub cut : (line : List ℕ) (at : ℕ) → take (at + 18 - at) (drop at line) ≡ window line at
-cut line at = let e : at + 18 - at ≡ 18 = omega arith in ap (λ (n : ℕ). take n (drop at line)) e
 
 -- past the last place that leaves 18 bytes no valid request begins
 pub past_end : (line : List ℕ) (at : ℕ) → length line < at + 18 → Valid (window line at) → ⊥
@@ -134,7 +144,3 @@ pub here : {frame : List ℕ} {r : Bool} (line : List ℕ) (at : ℕ) → frame 
 here {frame} line at is t d =
     let q = fields frame (d.0 t) in
     record { fits = q.fits; nine = q.nine; is = sym is ∙ q.is }
-
-pub not_here : {frame : List ℕ} {r : Bool} (line : List ℕ) (at : ℕ) → frame ≡ window line at → r ≡ false → Decides r (Valid frame) →
-    Valid (window line at) → ⊥
-not_here line at is t d v = both_ways _ t (d.1 (subst Valid (sym is) v))

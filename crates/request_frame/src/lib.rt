@@ -6,16 +6,20 @@ ghost use Rattle.refusal.specs.Told.{answer, granted, refused};
 ghost use Rattle.refusal.specs.declared.Company.TheVariants.{Alone};
 ghost use Rattle.request_frame.specs.Requests.{FirstBegun, Least, ReadsAs, Requests, Valid, begun, headed, request, window};
 
-use block::{is_block, put_opening};
+use block::{HEAD, is_block, put_opening};
 use refusal::Refusal;
 
 // The length of a request on the line.
 pub const REQUEST_BYTES: usize = 18;
 
+// The first bytes of every request: head, DataLen 0, ControlByte 0.
+const BEGINNING: [u8; 4] = [0x05, 0x64, 0, 0];
+
 // The parts of a request; the nine parameters are a part of the line.
 #[derive(Clone, Copy)]
 pub struct Request<'a> {
     pub address: u16,
+    // Stays: any byte can be a command on the line; which of them are known is told by the reader of rows.
     pub command: u8,
     pub parameters: &'a [u8],
 }
@@ -25,11 +29,12 @@ fn ten(command: u8, parameters: &[u8; 9]) -> [u8; 10]
     ensures { result ≡ command ∷ parameters.now }
 {
     let mut ten = [command; 10];
-    ten[1..10].copy_from_slice(parameters);
+    ten[1..].copy_from_slice(parameters);
     ten
 }
 
 // Writes a request at the start of `out`.
+// Stays: the nine parameters are an array here, and in a `Request` a part of the line; one struct for both would ask callers for the length.
 pub fn write_request(
     out: &mut [u8],
     address: u16,
@@ -47,52 +52,33 @@ pub fn write_request(
     Ok(())
 }
 
-// Whether `frame` begins as a request does: head, DataLen 0, ControlByte 0.
-fn begins(frame: &[u8]) -> bool
-    requires { 4 ≤ length frame.now }
-    ensures { result ≡ headed frame.now }
-{
-    frame[0] == 0x05 && frame[1] == 0x64 && frame[2] == 0 && frame[3] == 0
-}
-
-// Whether `frame` is a valid request.
+// Whether `frame` is a valid request: head, DataLen 0, ControlByte 0, and a block behind the head.
 fn is_request(frame: &[u8]) -> bool
     ensures { Decides result (Valid frame.now) }
 {
-    if frame.len() != REQUEST_BYTES || !begins(frame) {
-        return false;
-    }
-    is_block(&frame[2..18])
+    frame.len() == REQUEST_BYTES && frame.starts_with(&BEGINNING) && is_block(&frame[2..])
 }
 
 // The least place in `line` at which a valid request begins, with its command.
+// Stays: a pair of plain numbers lends no part of the line, which `read_request` cuts out at that place.
 pub fn search(line: &[u8]) -> Option<(usize, u8)>
     ensures least { Least line.now result }
     ensures within { IfSome result (λ found. found.0 + 18 ≤ length line.now) }
 {
-    for at in 0..line.len().saturating_sub(17) {
-        let frame = &line[at..at + 18];
-        if is_request(frame) {
-            return Some((at, frame[6]));
-        }
-    }
-    None
+    let at = line.windows(REQUEST_BYTES).position(is_request)?;
+    Some((at, line[at + 6]))
 }
 
 // The parts of the request that begins at `at`, if a valid one does.
 pub fn read_request(line: &[u8], at: usize) -> Option<Request<'_>>
     ensures { MatchOption result (Valid (window line.now at) → ⊥) (λ q. Requests (window line.now at) q.address q.command q.parameters.now) }
 {
-    if line.len() < REQUEST_BYTES || at > line.len() - REQUEST_BYTES {
-        return None;
-    }
-    let frame = &line[at..at + 18];
+    let frame = line.get(at..)?.get(..REQUEST_BYTES)?;
     if !is_request(frame) {
         return None;
     }
-    let address = u16::from(frame[4]) + 256 * u16::from(frame[5]);
     Some(Request {
-        address,
+        address: u16::from_le_bytes([frame[4], frame[5]]),
         command: frame[6],
         parameters: &frame[7..16],
     })
@@ -102,20 +88,12 @@ pub fn read_request(line: &[u8], at: usize) -> Option<Request<'_>>
 fn is_begun(rest: &[u8]) -> bool
     ensures { result ≡ begun rest.now }
 {
-    rest.len() > 0
-        && rest.len() < REQUEST_BYTES
-        && rest[0] == 0x05
-        && (rest.len() == 1 || rest[1] == 0x64)
+    rest == &HEAD[..1] || rest.len() < REQUEST_BYTES && rest.starts_with(&HEAD)
 }
 
 // The least place from which the line's end is a beginning that more bytes may finish.
 pub fn unfinished(line: &[u8]) -> Option<usize>
     ensures { FirstBegun line.now result }
 {
-    for at in line.len().saturating_sub(17)..line.len() {
-        if is_begun(&line[at..]) {
-            return Some(at);
-        }
-    }
-    None
+    (line.len().saturating_sub(17)..line.len()).find(|at| is_begun(&line[*at..]))
 }

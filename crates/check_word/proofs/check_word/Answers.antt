@@ -1,17 +1,15 @@
-use Rattle.std.proofs.Common.{ℕ, ◌-◌, sym, ap, ◌∙◌, rules}
-use Rattle.check_word.specs.CheckWord.{after, check_word}
+use Rattle.std.proofs.Common.{◌≡◌, ℕ, ◌-◌, List, [], ◌∷◌, refl, ap, ◌∙◌, rules}
+use Rattle.std.specs.List.{fold}
+use Rattle.check_word.specs.CheckWord.{after, byte_in, check_word}
 use Rattle.check_word.proofs.check_word.Goals as goal
-use Rattle.std.proofs.lemmas.List.{at_drop_all, at_drop_more}
 
-pub loop-byte-preserved : goal.loop-byte-preserved
+after_folds : (register : ℕ) (bytes : List ℕ) → fold byte_in register bytes ≡ after register bytes
 unfolding after
-loop-byte-preserved c =
-    let more =
-    at_drop_more (after c.loop-byte.register) c.args.bytes.now c.loop-byte.byte-index 0 c.loop-byte-test.true in
-    (cc, search rules)
+after_folds register [] = refl
+after_folds register (byte ∷ bytes) = after_folds (byte_in register byte) bytes
 
 pub returns : goal.returns
-unfolding after check_word
+unfolding check_word
 returns c =
-    let all = at_drop_all (after c.loop-byte.register) c.args.bytes.now c.loop-byte.byte-index c.loop-byte-test.false in
-    ap (λ (n : ℕ). 65535 - n) (sym all ∙ c.loop-byte.invariant.0)
+    let folded : c.fold.result ≡ fold byte_in 0 c.args.bytes.now = search rules in
+    ap (λ (n : ℕ). 65535 - n) (folded ∙ after_folds 0 c.args.bytes.now)

@@ -1,21 +1,20 @@
-use Rattle.std.proofs.Common.{refl, arith}
-use Rattle.request_frame.proofs.Frame.{cut, here, moved, not_here, past_end}
+use Rattle.std.proofs.Common.{◌≡◌, ℕ, List, take, refl, ap, ◌∙◌, arith}
+use Rattle.request_frame.specs.Requests.{window}
+use Rattle.request_frame.proofs.Frame.{here, moved, past_end}
 use Rattle.request_frame.proofs.read_request.Goals as goal
-use Rattle.request_frame.proofs.read_request.Goals.{then-line-lt-REQUEST_BYTES-via-then-line-lt-REQUEST_BYTES, then-line-lt-REQUEST_BYTES-via-else-line-lt-REQUEST_BYTES+then-at-line}
+use Rattle.std.proofs.lemmas.List.{take_rest}
 
-pub returns-then-line-lt-REQUEST_BYTES : goal.returns-then-line-lt-REQUEST_BYTES
-returns-then-line-lt-REQUEST_BYTES c =
-    elim c.then-line-lt-REQUEST_BYTES.branch [
-      | then-line-lt-REQUEST_BYTES-via-then-line-lt-REQUEST_BYTES w ↦ past_end c.args.line.now c.args.at (omega arith)
-      | then-line-lt-REQUEST_BYTES-via-else-line-lt-REQUEST_BYTES+then-at-line w ↦ past_end c.args.line.now c.args.at (omega arith)
-    ]
-
-pub returns-then-not-is_request : goal.returns-then-not-is_request
-returns-then-not-is_request c =
-    not_here c.args.line.now c.args.at (cut c.args.line.now c.args.at) c.if-not-is_request.true c.is_request.ensures
+pub returns-in_err-frame : goal.returns-in_err-frame
+returns-in_err-frame c =
+    let short = c.in_err-frame.ensures.lookup in
+    let rest = c.in_ok-get.ensures.lookup in
+    rw c.from_residual-in_err-frame.ensures (past_end c.args.line.now c.args.at (omega arith))
 
 pub returns : goal.returns
 returns c =
-    moved
-    (here c.args.line.now c.args.at (cut c.args.line.now c.args.at) c.if-not-is_request.false c.is_request.ensures)
-    (omega (arith, c.from.ensures, c.from-2.ensures)) refl refl
+    let line : List ℕ = c.args.line.now in
+    let at = c.args.at in
+    let rest = c.in_ok-get.ensures.lookup in
+    let cut = c.in_ok-frame.ensures.lookup in
+    let is : c.in_ok-frame.frame.now ≡ window line at = cut.0.2 ∙ ap (take 18) (rest.0.2 ∙ take_rest line at) in
+    moved (here line at is c.if-not-is_request.false c.is_request.ensures) (omega (arith, c.from_le_bytes.ensures)) refl refl

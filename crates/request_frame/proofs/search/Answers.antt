@@ -1,25 +1,15 @@
-use Rattle.std.proofs.Common.{⊎_elim, arith, below_more}
-use Rattle.request_frame.proofs.Frame.{cut, here, not_here, past_end}
+use Rattle.std.proofs.Common.{None, Some, rules}
 use Rattle.request_frame.proofs.search.Goals as goal
-use Rattle.std.proofs.lemmas.Bool.{cases_lt}
+use Rattle.request_frame.proofs.Found.{found, windows_of, with_command}
 
-pub returns-then-is_request : goal.returns-then-is_request
-returns-then-is_request c =
-    let at = c.loop-at.at in
-    record {
-      least = ((_, _, here c.args.line.now at (cut c.args.line.now at) c.if-is_request.true c.is_request.ensures), c.loop-at.invariant);
-      within = omega arith;
-    }
+pub returns-in_err-at-clause-least : goal.returns-in_err-at-clause-least
+returns-in_err-at-clause-least c =
+    let e = c.windows.ensures in
+    rw c.from_residual.ensures
+    (found c.args.line.now None c.in_err-at.ensures.runs (windows_of e.runs e.size e.rest) (λ a b f' k. search rules))
 
-pub loop-at-preserved : goal.loop-at-preserved
-loop-at-preserved c =
-    let at = c.loop-at.at in
-    below_more _ _ c.loop-at.invariant
-    (not_here c.args.line.now at (cut c.args.line.now at) c.if-is_request.false c.is_request.ensures)
-
-pub returns : goal.returns
-returns c =
-    record {
-      least = λ k v. ⊎_elim (λ h. c.loop-at.invariant k h v) (λ h. past_end c.args.line.now k (omega arith) v) (cases_lt k c.loop-at.at);
-      within = tt;
-    }
+pub returns-clause-least : goal.returns-clause-least
+returns-clause-least c =
+    let e = c.windows.ensures in
+    with_command c.args.line.now c.in_ok-at.at
+    (found c.args.line.now (Some c.in_ok-at.at) c.in_ok-at.ensures.runs (windows_of e.runs e.size e.rest) (λ a b f' k. search rules))

@@ -1,10 +1,9 @@
-use Rattle.std.proofs.Common.{◌≡◌}
-use Rattle.block.specs.Chain.{chained}
 use Rattle.block.proofs.chain.put_blocks.Given as goal
-use Rattle.block.proofs.Placed.{Step}
+use Rattle.block.proofs.Reading.{Put}
 use Rattle.std.specs.Slice.Iter.{chunks_rest, chunks_size}
+use Rattle.std.specs.Iterator.Adapters.{enumerate_count, enumerate_source}
 
-abbrev pub invariant-loop-part : goal.invariant-loop-part
-invariant-loop-part l =
-    (chunks_size l.part-iterator ≡ 14)
-    × Step l.at l.out l.initial.out (chained l.bytes) (chained (chunks_rest l.part-iterator))
+abbrev pub invariant-loop-k : goal.invariant-loop-k
+invariant-loop-k l =
+    Put l.bytes l.initial.out l.out (chunks_rest (enumerate_source l.k-iterator)) (chunks_size (enumerate_source l.k-iterator))
+    (enumerate_count l.k-iterator)
