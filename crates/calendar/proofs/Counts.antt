@@ -1,5 +1,7 @@
 -- Days counted off by number, months or years alike: the number that a day falls into.
-use Rattle.std.proofs.Common.{◌≡◌, ℕ, zero, suc, ◌+◌, ◌<◌, ◌≤◌, leb, sym, refl, ap, ◌∙◌, ⊎_elim, add-one, arith}
+use Rattle.std.proofs.Common.{◌≡◌, ℕ, zero, suc, ◌+◌, ◌<◌, ◌≤◌, leb, map, sum, sym, refl, ap, ◌∙◌, ⊎_elim, add-one, arith}
+use Rattle.std.specs.List.{range_with_len}
+use Rattle.std.proofs.lemmas.List.FromFn.{sum_by-map-range_with_len_more}
 use Rattle.calendar.specs.Dates.{before, reached}
 use Rattle.std.proofs.lemmas.Bool.{cases_lt, cond_both, cond-false, cond-true, le-leb, leb-false, leb-true, lt-leb}
 
@@ -14,6 +16,16 @@ before_more days n = refl
 -- the same as a loop has it
 pub before_next : (days : ℕ → ℕ) (n : ℕ) → before days (n + 1) ≡ before days n + days n
 before_next days n = ap (before days) (add-one n) ∙ before_more days n
+
+-- and as a sum over the numbers before
+pub before_sum : (days : ℕ → ℕ) (n : ℕ) → sum (map days (range_with_len 0 n)) ≡ before days n
+before_sum days zero = sym (before_none days)
+before_sum days (suc n) =
+    let more = sum_by-map-range_with_len_more (λ (x : ℕ). x) days 0 n n (omega arith) in
+    let all = before_more days n in
+    let rest = before_sum days n in
+    let one : suc n ≡ n + 1 = omega arith in
+    cc
 
 pub before_grows : (days : ℕ → ℕ) (m n : ℕ) → m ≤ n → before days m ≤ before days n
 before_grows days m zero h =

@@ -1,9 +1,9 @@
 -- The days of months and years in numbers.
-use Rattle.std.proofs.Common.{◌≡◌, ℕ, zero, suc, ◌+◌, ◌*◌, ◌/◌, ◌%◌, ◌<◌, ◌≤◌, sym, refl, ap, ⊎_elim, arith}
+use Rattle.std.proofs.Common.{◌≡◌, ℕ, zero, suc, ◌+◌, ◌*◌, ◌/◌, ◌%◌, ◌<◌, ◌≤◌, sym, ap, ⊎_elim, arith}
 use Rattle.calendar.specs.Dates.{before, day_of_month, month_days, month_lengths, month_of, year_days, year_of}
-use Rattle.calendar.proofs.Counts.{before_more, before_none, reached_is}
+use Rattle.calendar.proofs.Counts.{before_grows, before_more, before_none, reached_is}
 use Rattle.std.proofs.lemmas.List.{get_or_past}
-use Rattle.std.proofs.lemmas.Bool.{cases_eq, cond-false, cond-true, eq-eqb, ne_eqb}
+use Rattle.std.proofs.lemmas.Bool.{cases_eq, cases_lt, cond-false, cond-true, eq-eqb, ne_eqb}
 
 pub leap : (year : ℕ) → year % 4 ≡ 0 → month_days year 2 ≡ 29
 unfolding month_days
@@ -12,14 +12,6 @@ leap year h = cond-true _ _ _ (eq-eqb _ _ h)
 pub common : (year : ℕ) → (year % 4 ≡ 0 → ⊥) → month_days year 2 ≡ 28
 unfolding month_days
 common year h = cond-false _ _ _ (ne_eqb _ _ h)
-
--- the months but February, and month 0, which is none
-pub months : (year : ℕ) →
-    (month_days year 0 ≡ 0) × (month_days year 1 ≡ 31) × (month_days year 3 ≡ 31) × (month_days year 4 ≡ 30)
-    × (month_days year 5 ≡ 31) × (month_days year 6 ≡ 30) × (month_days year 7 ≡ 31) × (month_days year 8 ≡ 31)
-    × (month_days year 9 ≡ 30) × (month_days year 10 ≡ 31) × (month_days year 11 ≡ 30) × (month_days year 12 ≡ 31)
-unfolding month_days
-months year = (refl, refl, refl, refl, refl, refl, refl, refl, refl, refl, refl, refl)
 
 pub no_month : (year month : ℕ) → 12 < month → month_days year month ≡ 0
 unfolding month_days
@@ -40,6 +32,19 @@ before_year (suc year) =
     (λ h. omega (arith, leap year h))
     (λ h. omega (arith, common year h))
     (cases_eq (year % 4) 0)
+
+-- no more days come before any month than a leap year has
+pub before_most : (year month : ℕ) → before (month_days year) month ≤ 366
+unfolding year_days
+before_most year zero = omega (arith, before_none (month_days year))
+before_most year (suc month) =
+    let more = before_more (month_days year) month in
+    ⊎_elim
+    (λ lt.
+    let grows = before_grows (month_days year) (suc month) 13 (omega arith) in
+    omega (arith, before_year year, before_year (suc year), before_more year_days year))
+    (λ ge. omega (arith, before_most year month, no_month year month (omega arith)))
+    (cases_lt month 13)
 
 -- the year among whose days a day is
 pub in_years : (days : ℕ) → days ≤ 36524 →

@@ -5,24 +5,27 @@ ghost use Rattle.calendar.specs.Times.{date_in, season_bit, season_of};
 
 use super::days::{days_before_month, days_before_year, month_and_day, month_days, year_and_day};
 use super::{DateTime, Season};
+use std::fmt;
 
-impl Season {
-    // The season of a byte, by its bit 0.
-    pub fn of_byte(byte: u8) -> Season
-        ensures { result ≡ season_of byte }
-    {
+// The season of a byte, by its bit 0.
+impl From<u8> for Season {
+    ghost from_gives = { λ byte season. season ≡ season_of byte };
+
+    fn from(byte: u8) -> Season {
         if byte % 2 == 0 {
             Season::Winter
         } else {
             Season::Summer
         }
     }
+}
 
-    // The season's bit.
-    pub fn bit(self) -> u8
-        ensures { result ≡ season_bit self }
-    {
-        match self {
+// The season's bit.
+impl From<Season> for u8 {
+    ghost from_gives = { λ season bit. bit ≡ season_bit season };
+
+    fn from(season: Season) -> u8 {
+        match season {
             Season::Winter => 0,
             Season::Summer => 1,
         }
@@ -31,6 +34,7 @@ impl Season {
 
 impl DateTime {
     // The date in the first six bytes: year, month, day, hour, minute, second.
+    // Stays: a request lends its date as a slice, and a conversion from [u8; 6] would ask more of who calls.
     pub fn in_bytes(bytes: &[u8]) -> DateTime
         requires { 6 ≤ length bytes.now }
         ensures { result ≡ date_in bytes.now }
@@ -50,7 +54,7 @@ impl DateTime {
         ensures { result ≡ is_day self }
     {
         let days = month_days(self.year, self.month);
-        self.year <= 99 && 1 <= self.month && self.month <= 12 && 1 <= self.day && self.day <= days
+        self.year <= 99 && (1..=12).contains(&self.month) && (1..=days).contains(&self.day)
     }
 
     // Whether there is such a time of day.
@@ -61,6 +65,7 @@ impl DateTime {
     }
 
     // Whether there is such a date.
+    #[tactic(auto, unfolding(crate::specs::Dates::is_lawful))]
     pub fn is_lawful(self) -> bool
         ensures { result ≡ is_lawful self }
     {
@@ -89,6 +94,7 @@ impl DateTime {
     }
 
     // The date at so many seconds from the start of 2000.
+    #[tactic(auto, unfolding(crate::specs::Dates::date_of))]
     pub(crate) fn at(seconds: u32) -> DateTime
         requires { seconds ≤ 3155759999 }
         ensures { result ≡ date_of seconds }
@@ -103,5 +109,23 @@ impl DateTime {
             minute: (seconds / 60 % 60) as u8,
             second: (seconds % 60) as u8,
         }
+    }
+}
+
+impl fmt::Display for DateTime {
+    fn fmt<W: fmt::Write>(&self, f: &mut fmt::Formatter<W>) -> fmt::Result {
+        let year = 2000 + u16::from(self.year);
+        let DateTime {
+            month,
+            day,
+            hour,
+            minute,
+            second,
+            ..
+        } = *self;
+        write!(
+            f,
+            "{year}-{month:02}-{day:02} {hour:02}:{minute:02}:{second:02}"
+        )
     }
 }

@@ -3,6 +3,7 @@ ghost use Rattle.std.specs.Prelude.{◌≡◌, ◌<◌, ◌≤◌};
 ghost use Rattle.calendar.specs.Dates.{before, day_of_month, day_of_year, month_days, month_of, year_days, year_of};
 
 // The days of a month, none where there is no such month.
+#[tactic(auto, using(crate::proofs::Years::leap, crate::proofs::Years::common), unfolding(crate::specs::Dates::month_days))]
 pub fn month_days(year: u8, month: u8) -> u8
     ensures { result ≡ month_days year month }
 {
@@ -16,14 +17,13 @@ pub fn month_days(year: u8, month: u8) -> u8
 }
 
 // The days of the months before `month`.
+// Stays: year and month are two bytes of a date; a struct of them would be made for these calls alone.
 pub fn days_before_month(year: u8, month: u8) -> u16
     ensures { result ≡ before (month_days year) month }
 {
-    let mut days = 0;
-    for earlier in 0..month {
-        days += u16::from(month_days(year, earlier));
-    }
-    days
+    (0..month)
+        .map(|earlier| u16::from(month_days(year, earlier)))
+        .sum()
 }
 
 // The month and the day of the month at a day of a year, counted from 0.
@@ -33,6 +33,7 @@ pub fn month_and_day(year: u8, day: u16) -> (u8, u8)
     ensures day { result.1 ≡ day_of_month year day }
 {
     let mut left = day;
+    // Stays: the loop goes over the months themselves; a chain would sum the days before each month anew.
     for month in 1..12 {
         let days = u16::from(month_days(year, month));
         if left < days {
@@ -44,6 +45,7 @@ pub fn month_and_day(year: u8, day: u16) -> (u8, u8)
 }
 
 // The days of the years before `year`.
+#[tactic(auto, using(crate::proofs::Years::before_year))]
 pub fn days_before_year(year: u8) -> u32
     ensures { result ≡ before year_days year }
 {
@@ -53,6 +55,7 @@ pub fn days_before_year(year: u8) -> u32
 
 // The year of a day number and the day in that year, from 0. Four years have 1461 days, the first of them
 // one more than each other.
+#[tactic(auto, using(crate::proofs::Years::in_years))]
 pub fn year_and_day(days: u32) -> (u8, u16)
     requires { days ≤ 36524 }
     ensures year { result.0 ≡ year_of days }

@@ -10,6 +10,7 @@ use refusal::Refusal;
 
 impl Clock {
     // Sets the clock to a date and to the season in bit 0 of a byte, unless there is no such date.
+    // Stays: any byte is taken as a season by its bit 0; a `Season` in its place would ask more of who calls.
     pub fn set(&mut self, date: DateTime, season: u8) -> Result<(), Refusal>
         ensures told { answer result ≡ (if is_lawful date then granted tt else refused 8 Alone) }
         ensures shows { shown self.new ≡ (if is_lawful date then set_to date season else shown self.old) }
@@ -20,11 +21,12 @@ impl Clock {
         }
         self.seconds = date.moment();
         self.ticks = 0;
-        self.season = Season::of_byte(season);
+        self.season = Season::from(season);
         Ok(())
     }
 
     // The date in nine bytes: year, month, day, hour, minute, second, 1/256 seconds, weekday, season.
+    // Stays: the nine bytes go as they are into replies and cleared logs, which take an array.
     pub fn date(&self) -> [u8; 9]
         ensures bytes { result ≡ nine_bytes (shown self.now) }
         ensures every_second { EverySecond }
@@ -40,7 +42,7 @@ impl Clock {
             date.second,
             self.ticks,
             weekday as u8,
-            self.season.bit(),
+            u8::from(self.season),
         ]
     }
 }

@@ -31,6 +31,7 @@ impl Clock {
         if count >= ALL_TICKS {
             return Err(Refusal::PastLastYear);
         }
+        // Stays: a second has 256 ticks, so this divides a time; told as bytes of the count it would read as layout.
         self.seconds = (count / 256) as u32;
         self.ticks = (count % 256) as u8;
         Ok(())

@@ -21,6 +21,7 @@ pub fn copy_readings(mask: u32, readings: &[u8; 175], out: &mut [u8]) -> usize
     let mut bits = mask;
     let mut from = 0;
     let mut at = 0;
+    // Stays: the table of lengths is summed for the offsets, a form that the project keeps; bits go along with it.
     for n in &LENGTHS {
         if bits % 2 == 1 {
             out[at..at + *n].copy_from_slice(&readings[from..from + *n]);

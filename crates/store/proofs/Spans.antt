@@ -1,9 +1,11 @@
 -- Laws of neighbouring cells, one cell more at a time.
-use Rattle.std.proofs.Common.{◌≡◌, ℕ, zero, suc, ◌+◌, ◌-◌, ◌<◌, cond, ◌&&◌, eqb, ltb, leb, List, [], ◌∷◌, ◌++◌, length, get_or, Decides, sym, ap, ◌∙◌, subst, arith, below_more}
+use Rattle.std.proofs.Common.{◌≡◌, ℕ, zero, suc, ◌+◌, ◌-◌, ◌<◌, ◌≤◌, Bool, true, false, List, [], ◌∷◌, ◌++◌, length, get_or, refl, sym, ap, ◌∙◌, subst, ◌⊎◌, inl, inr, ◌↔◌, ⊎_elim, arith}
 use lib.Bits.{bit_or, bit_xor, and_le_l, and_le_r, or_add_and, xor_add_and, xor_self}
-use Rattle.std.proofs.lemmas.Bool.{and_from, cond-true, eq-eqb, eqb-true, le-leb, lt-ltb}
+use Rattle.std.proofs.lemmas.Bool.{and_from, cond-true, le-leb, lt-ltb}
 use Rattle.std.proofs.lemmas.Bool.Decides.{nat_tests}
-use Rattle.store.specs.Cells.{laid, span, upd}
+use Rattle.std.specs.Range.{range_inclusive_end, range_inclusive_exhausted, range_inclusive_left, range_inclusive_len, range_inclusive_start}
+use Rattle.std.specs.declared.ops.RangeInclusive.{RangeInclusive}
+use Rattle.store.specs.Cells.{Hold, laid, span, upd}
 
 pub span_more : (cells : ℕ → ℕ) (first n : ℕ) → span cells first (n + 1) ≡ span cells first n ++ cells (first + n) ∷ []
 span_more cells first zero = ap (λ (i : ℕ). cells i ∷ []) (omega arith)
@@ -26,13 +28,21 @@ span_fits cells first (suc n) fit (suc i) =
     subst (λ (k : ℕ). cells k < 256) step (fit (suc j) (omega arith)))
     i
 
--- the cells after the first n of the bytes are written
-abbrev pub partly : ℕ → ℕ → List ℕ → (ℕ → ℕ) → ℕ → ℕ
-partly first n bytes cells k = cond (leb first k && ltb k (first + n)) (get_or bytes (k - first) 0) (cells k)
+next_or_none : (spent : Bool) (cell n next last : ℕ) → n ≤ range_inclusive_len (λ a b. b - a) next last spent →
+    (spent ≡ false → next ≡ cell + 1) → (n ≡ 0) ⊎ (next ≡ cell + 1)
+next_or_none true cell n next last h f = inl (omega arith)
+next_or_none false cell n next last h f = inr (f refl)
 
-pub partly_more : (first n : ℕ) (bytes : List ℕ) (cells : ℕ → ℕ) (k : ℕ) →
-    upd (partly first n bytes cells) (first + n) (get_or bytes n 0) k ≡ partly first (n + 1) bytes cells k
-partly_more first n bytes cells k = grind (arith, nat_tests)
+-- a range of cells that has n left behind a cell goes on at the next cell, unless n is 0
+pub goes_on : (range : RangeInclusive ℕ) (cell n : ℕ) → n ≤ range_inclusive_left (λ a b. b - a) range →
+    (range_inclusive_exhausted range ≡ false → range_inclusive_start range ≡ cell + 1) → (n ≡ 0) ⊎ (range_inclusive_start range ≡ cell + 1)
+goes_on range cell n = next_or_none (range_inclusive_exhausted range) cell n (range_inclusive_start range) (range_inclusive_end range)
+
+-- one byte written leaves the others to be laid
+pub laid_more : (cell next byte : ℕ) (later : List ℕ) (cells : ℕ → ℕ) (k : ℕ) → (length later ≡ 0) ⊎ (next ≡ cell + 1) →
+    laid next later (upd cells cell byte) k ≡ laid cell (byte ∷ later) cells k
+laid_more cell next byte [] cells k h = grind (arith, nat_tests)
+laid_more cell next byte (x ∷ later) cells k h = grind (arith, nat_tests)
 
 -- the bytes written are what the cells then hold
 pub laid_held : (first : ℕ) (bytes : List ℕ) (cells : ℕ → ℕ) (i : ℕ) → i < length bytes → laid first bytes cells (first + i) ≡ get_or bytes i 0
@@ -53,17 +63,39 @@ alike a x y e =
     let ur = and_le_r x y in
     (omega arith, omega arith)
 
-pub decides_more : (difference n x : ℕ) (bytes : List ℕ) (cells : ℕ → ℕ) (first : ℕ) → x ≡ cells (first + n) →
-    Decides (eqb difference 0) ((i : ℕ) → i < n → cells (first + i) ≡ get_or bytes i 0) →
-    Decides (eqb (bit_or difference (bit_xor x (get_or bytes n 0))) 0) ((i : ℕ) → i < n + 1 → cells (first + i) ≡ get_or bytes i 0)
-decides_more difference n x bytes cells first is so_far = (
+held_more : (cell next byte : ℕ) (later : List ℕ) (cells : ℕ → ℕ) → (length later ≡ 0) ⊎ (next ≡ cell + 1) →
+    cells cell ≡ byte → Hold cells next later → Hold cells cell (byte ∷ later)
+held_more cell next byte later cells h here rest zero l =
+    let place : cell + 0 ≡ cell = omega arith in
+    ap cells place ∙ here
+held_more cell next byte later cells h here rest (suc i) l =
+    ⊎_elim
+    (λ e. absurd (omega arith))
+    (λ e. let place : cell + suc i ≡ next + i = omega arith in ap cells place ∙ rest i (omega arith))
+    h
+
+held_later : (cell next byte : ℕ) (later : List ℕ) (cells : ℕ → ℕ) → (length later ≡ 0) ⊎ (next ≡ cell + 1) →
+    Hold cells cell (byte ∷ later) → Hold cells next later
+held_later cell next byte later cells h all i l =
+    ⊎_elim
+    (λ e. absurd (omega arith))
+    (λ e. let place : next + i ≡ cell + suc i = omega arith in ap cells place ∙ all (suc i) (omega arith))
+    h
+
+-- one byte compared leaves the others to be compared
+pub alike_more : (W : Type 0) (difference cell next x byte : ℕ) (left later : List ℕ) (cells : ℕ → ℕ) →
+    x ≡ cells cell → left ≡ byte ∷ later → (length later ≡ 0) ⊎ (next ≡ cell + 1) →
+    ((difference ≡ 0) × Hold cells cell left ↔ W) → ((bit_or difference (bit_xor x byte) ≡ 0) × Hold cells next later ↔ W)
+alike_more W difference cell next x byte left later cells is took h so_far = (
   (λ t.
-      let both = alike difference x (get_or bytes n 0) (eqb-true _ _ t) in
-      below_more _ _ (so_far.0 (eq-eqb _ _ both.0)) (sym is ∙ both.1)),
-  (λ all.
-      let none = eqb-true difference 0 (so_far.1 (λ i h. all i (omega arith))) in
-      let same : x ≡ get_or bytes n 0 = is ∙ all n (omega arith) in
-      let zeros = xor_self (get_or bytes n 0) in
-      let e : bit_or difference (bit_xor x (get_or bytes n 0)) ≡ bit_or 0 0 = cc in
-      eq-eqb _ _ e),
+      let both = alike difference x byte t.0 in
+      so_far.0 (both.0, subst (Hold cells cell) (sym took) (held_more cell next byte later cells h (sym is ∙ both.1) t.1))),
+  (λ w.
+      let none = (so_far.1 w).0 in
+      let all = subst (Hold cells cell) took (so_far.1 w).1 in
+      let place : cell ≡ cell + 0 = omega arith in
+      let here : x ≡ byte = is ∙ ap cells place ∙ all 0 (omega arith) in
+      let zeros = xor_self byte in
+      let same : bit_or difference (bit_xor x byte) ≡ bit_or 0 0 = cc in
+      (same, held_later cell next byte later cells h all)),
 )

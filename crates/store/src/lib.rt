@@ -23,6 +23,7 @@ pub trait Store {
 }
 
 // A store that is made from the bytes of its cells, cell 0 first.
+// Stays: its clause speaks of the cells of a `Store`, which a `From` knows nothing of.
 pub trait Filled: Store + Sized {
     fn filled(bytes: [u8; 256]) -> Self
         ensures { (k : ℕ) → Self.cells result k ≡ holding bytes k };

@@ -3,6 +3,7 @@
 
 #[cfg(test)]
 mod tests {
+    use std::array;
     use std::process::Abort;
     use store::appending::Appending;
     use store::flat::Flat;
@@ -11,11 +12,7 @@ mod tests {
 
     // Cell `k` holds 255 - k.
     fn falling() -> [u8; 256] {
-        let mut bytes = [0; 256];
-        for k in 0..256 {
-            bytes[k] = 255 - k as u8;
-        }
-        bytes
+        array::from_fn(|k| 255 - k as u8)
     }
 
     // Writes to `store` and to `plain` alike: the cell and the byte are the highest two bytes of the
@@ -33,9 +30,9 @@ mod tests {
     // The sum of the cells, each times its number and 1, once each is as in `plain`.
     fn weighed<S: Store>(rt: &impl Abort, store: &S, plain: &[u8; 256]) -> u32 {
         let mut sum: u32 = 0;
-        for cell in 0..=255u8 {
+        for (cell, wanted) in (0..=255u8).zip(plain) {
             let byte = store.read(cell);
-            assert_eq!(rt; byte, plain[cell as usize]);
+            assert_eq!(rt; byte, *wanted);
             sum = sum.wrapping_add((u32::from(cell) + 1) * u32::from(byte));
         }
         sum
@@ -73,15 +70,16 @@ mod tests {
         assert!(rt; same_cells(store, 255, &[8]));
     }
 
+    fn all<S: Filled + Drop>(rt: &impl Abort) {
+        let mut store = S::filled(falling());
+        driven(rt, &mut store);
+        password(rt, &mut store);
+        last(rt, &mut store);
+    }
+
     #[test]
     fn stores_are_alike(rt: HostRuntime) {
-        let mut flat = Flat::filled(falling());
-        driven(&rt, &mut flat);
-        password(&rt, &mut flat);
-        last(&rt, &mut flat);
-        let mut appending = Appending::filled(falling());
-        driven(&rt, &mut appending);
-        password(&rt, &mut appending);
-        last(&rt, &mut appending);
+        all::<Flat>(&rt);
+        all::<Appending>(&rt);
     }
 }

@@ -4,5 +4,5 @@ use Rattle.calendar.proofs.Clock.date.Goals as goal
 pub returns : goal.returns
 returns c =
     let date = c.at-date.ensures in
-    let season = c.bit.ensures in
+    let season = c.from.ensures in
     record { bytes = cc; every_second = every_second }

@@ -20,5 +20,5 @@ pub returns : goal.returns
 returns c =
     let a-date : is_lawful c.args.date ≡ true = sym c.is_lawful.ensures ∙ c.if-not-is_lawful.false in
     let seconds = c.moment-self.ensures in
-    let season = c.of_byte-self.ensures in
+    let season = c.from-self.ensures in
     record { told = sym (cond-true _ _ _ a-date); shows = (cc) ∙ sym (cond-true _ _ _ a-date); every_date = every_date }

@@ -1,24 +1,21 @@
-use Rattle.std.proofs.Common.{◌≡◌, ℕ, ◌+◌, length, ap, ◌∙◌, arith}
-use Rattle.store.specs.Cells.{laid}
-use Rattle.store.proofs.Spans.{laid_held, partly, partly_more}
+use Rattle.std.proofs.Common.{◌≡◌, ℕ, ◌+◌, List, length, ap, arith}
+use Rattle.std.specs.Range.{range_inclusive_start}
+use Rattle.store.proofs.Spans.{goes_on, laid_more}
 use Rattle.store.proofs.neighbours.write_cells.Goals as goal
 
-pub loop-i-preserved : goal.loop-i-preserved
-loop-i-preserved g c =
-    λ k.
-    let written = c.write.ensures k in
-    let so_far = c.loop-i.invariant k in
-    let more = partly_more c.args.first c.loop-i.i c.args.bytes.now (g.S.Store.cells c.args.store.now) k in
-    cc
-
-pub returns : goal.returns
-returns g c =
-    let cells = g.S.Store.cells c.args.store.now in
-    let bytes = c.args.bytes.now in
-    let all : c.loop-i.i ≡ length bytes = omega arith in
-    let written : (k : ℕ) → g.S.Store.cells c.loop-i.store k ≡ laid c.args.first bytes cells k =
-    λ k. c.loop-i.invariant k ∙ ap (λ (n : ℕ). partly c.args.first n bytes cells k) all in
+pub loop-cell-preserved : goal.loop-cell-preserved
+loop-cell-preserved g c =
+    let steps = c.in-Some.ensures.steps in
+    let cell : ℕ = range_inclusive_start c.loop-cell.cell-iterator.a in
+    let after = c.next.new.self in
+    let later : List ℕ = after.b.rest.now in
+    let one : length c.loop-cell.cell-iterator.b.rest.now ≡ length later + 1 = omega (arith, ap length steps.1) in
+    let goes = goes_on after.a cell (length later) (omega arith) steps.0.1.2 in
     record {
-      written = written;
-      held = λ i h. written (c.args.first + i) ∙ laid_held c.args.first bytes cells i h;
+      room = omega arith;
+      whole = λ k.
+          let more = laid_more cell (range_inclusive_start after.a) c.in-Some.byte.now later (g.S.Store.cells c.loop-cell.store) k goes in
+          let written = c.write.ensures k in
+          let so_far = c.loop-cell.invariant.whole k in
+          cc;
     }

@@ -1,8 +1,7 @@
-use Rattle.std.proofs.Common.{◌≡◌, ℕ, take}
-use Rattle.store.specs.Cells.{holding}
+use Rattle.std.proofs.Common.{◌≡◌, ℕ}
 use Rattle.store.specs.Strip.{over}
 use Rattle.store.proofs.appending.Appending.fold.Given as goal
 
-abbrev pub invariant-loop-i : goal.invariant-loop-i
-invariant-loop-i l =
-    ((k : ℕ) → holding l.self.base k ≡ over l.initial.self.base (take l.i l.initial.self.strip) k) × (l.self.strip ≡ l.initial.self.strip)
+-- the entries that are left, over the base so far, tell the cells
+abbrev pub invariant-loop-entry : goal.invariant-loop-entry
+invariant-loop-entry l = (k : ℕ) → over l.base l.entry-iterator.rest.now k ≡ over l.fn.self.base l.fn.self.strip.items k
