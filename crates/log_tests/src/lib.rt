@@ -1,6 +1,8 @@
 // Records and logs on examples whose values were computed elsewhere.
 #![tactic(auto)]
 
+ghost use Rattle.std.specs.Prelude.{◌≡◌, ◌<◌, length};
+
 #[cfg(test)]
 mod tests {
     use calendar::Clock;
@@ -9,58 +11,59 @@ mod tests {
     use ring_log::Position;
     use ring_log::reading::{copy_out, record_at};
     use ring_log::ring::{note_event, note_gap};
+    use std::fmt::Debug;
     use std::process::Abort;
     use std::test::Fail;
 
-    const NO_GAP: PowerGap = PowerGap { off: 0, on: 0 };
-
-    const NO_EVENT: Event = Event {
-        reason: 0,
-        seconds: 0,
-        ticks: 0,
-        tu: 0,
-        tc: 0,
-        value: 0,
-        period: 0,
-    };
-
-    // The event has these bytes, nothing is written behind them, and they read back as the event.
-    fn event_is(rt: &impl Abort, event: Event, bytes: [u8; 13]) {
-        let mut out = [0xAAu8; 14];
-        event.put(&mut out);
-        assert_eq!(rt; &out[0..13], &bytes[0..13]);
-        assert_eq!(rt; out[13], 0xAA);
-        assert_eq!(rt; Event::of(&bytes), Some(event));
-    }
-
-    fn gap_is(rt: &impl Abort, off: u32, on: u32, bytes: [u8; 9]) {
-        let gap = PowerGap { off, on };
-        let mut out = [0xAAu8; 10];
-        gap.put(&mut out);
-        assert_eq!(rt; &out[0..9], &bytes[0..9]);
-        assert_eq!(rt; out[9], 0xAA);
-        assert_eq!(rt; PowerGap::of(&bytes), Some(gap));
+    // The record has these bytes, nothing is written behind them, and they read back as the record.
+    fn record_is<K: Kind + PartialEq + Debug + Copy>(
+        rt: &impl Abort,
+        record: K,
+        bytes: &[u8],
+        out: &mut [u8],
+    )
+        requires size { length bytes.now ≡ K.size }
+        requires room { K.size < length out.old }
+    {
+        record.put(out);
+        assert_eq!(rt; &out[..bytes.len()], bytes);
+        assert_eq!(rt; out[bytes.len()], 0xAA);
+        assert_eq!(rt; K::of(bytes), Some(record));
     }
 
     #[test]
     fn bytes_of_records(rt: HostRuntime) {
-        gap_is(&rt, 1, 2, [1, 0, 0, 0, 2, 0, 0, 0, 0xFC]);
-        gap_is(&rt, 0, 0, [0, 0, 0, 0, 0, 0, 0, 0, 0xFF]);
-        gap_is(
+        record_is(
             &rt,
-            0x0102_0304,
-            0xA0B0_C0D0,
-            [4, 3, 2, 1, 0xD0, 0xC0, 0xB0, 0xA0, 0x15],
+            PowerGap { off: 1, on: 2 },
+            &[1, 0, 0, 0, 2, 0, 0, 0, 0xFC],
+            &mut [0xAA; 10],
         );
-        event_is(
+        record_is(
+            &rt,
+            PowerGap { off: 0, on: 0 },
+            &[0, 0, 0, 0, 0, 0, 0, 0, 0xFF],
+            &mut [0xAA; 10],
+        );
+        record_is(
+            &rt,
+            PowerGap {
+                off: 0x0102_0304,
+                on: 0xA0B0_C0D0,
+            },
+            &[4, 3, 2, 1, 0xD0, 0xC0, 0xB0, 0xA0, 0x15],
+            &mut [0xAA; 10],
+        );
+        record_is(
             &rt,
             Event {
                 reason: 0x83,
-                ..NO_EVENT
+                ..Event::default()
             },
-            [0x83, 0, 0, 0, 0, 0, 0, 0, 0, 0, 0, 0, 0x7C],
+            &[0x83, 0, 0, 0, 0, 0, 0, 0, 0, 0, 0, 0, 0x7C],
+            &mut [0xAA; 14],
         );
-        event_is(
+        record_is(
             &rt,
             Event {
                 reason: 1,
@@ -71,9 +74,10 @@ mod tests {
                 value: 0x1234,
                 period: 0xFEDC,
             },
-            [
+            &[
                 0x01, 0x78, 0x56, 0x34, 0x12, 0x9A, 0xBC, 0xDE, 0x34, 0x12, 0xDC, 0xFE, 0x96,
             ],
+            &mut [0xAA; 14],
         );
         assert_eq!(rt; PowerGap::of(&[1, 0, 0, 0, 2, 0, 0, 0, 0xFD]), None);
         assert_eq!(rt; PowerGap::of(&[1, 0, 0, 0, 2, 0, 0, 0]), None);
@@ -86,19 +90,13 @@ mod tests {
         memory: &[PowerGap],
         told: (u16, u16, u16),
         oldest: u32,
-    ) -> Result<(), Fail> {
+    ) {
         assert_eq!(rt; position.record_count(), told.0);
         assert_eq!(rt; position.record_max(), told.1);
         assert_eq!(rt; position.held(), told.2);
         match record_at(position, memory, 0) {
-            Ok(gap) => {
-                assert_eq!(rt; gap.off, oldest);
-                Ok(())
-            },
-            Err(refusal) => {
-                assert!(rt; refusal == Refusal::LogIndex && oldest == 0);
-                Ok(())
-            },
+            Ok(gap) => assert_eq!(rt; gap.off, oldest),
+            Err(refusal) => assert!(rt; refusal == Refusal::LogIndex && oldest == 0),
         }
     }
 
@@ -122,7 +120,7 @@ mod tests {
             (1, 0x8003, 3, 8),
         ];
         for (n, (count, most, held, oldest)) in table.into_iter().enumerate() {
-            tells(rt, position, memory, (count, most, held), oldest)?;
+            tells(rt, position, memory, (count, most, held), oldest);
             note_gap(position, memory, n as u32 + 1, 0)?;
         }
         Ok(())
@@ -130,18 +128,18 @@ mod tests {
 
     #[test]
     fn three_records(rt: HostRuntime) -> Result<(), Fail> {
-        let mut memory = [NO_GAP; 4];
+        let mut memory = [PowerGap::default(); 4];
         let mut position = Position::fresh(3);
         goes_round(&rt, &mut position, &mut memory)?;
         position.clear([24, 2, 29, 12, 0, 0, 0, 4, 0]);
-        tells(&rt, &position, &memory, (0, 3, 0), 0)?;
+        tells(&rt, &position, &memory, (0, 3, 0), 0);
         assert_eq!(rt; position.cleared(), [24, 2, 29, 12, 0, 0, 0, 4, 0]);
         Ok(())
     }
 
     #[test]
     fn refusals(rt: HostRuntime) {
-        let mut memory = [NO_EVENT; 2];
+        let mut memory = [Event::default(); 2];
         let good = Report {
             reason: 0x10,
             tu: 0,
@@ -168,7 +166,7 @@ mod tests {
             Err(Refusal::NoVolume)
         );
         assert_eq!(rt;
-            note_gap(&mut none, &mut [NO_GAP; 1], 0, 0),
+            note_gap(&mut none, &mut [PowerGap::default(); 1], 0, 0),
             Err(Refusal::NoVolume)
         );
         assert_eq!(rt; none.record_max(), 0);
@@ -177,6 +175,7 @@ mod tests {
 
     // Forty records in each log.
     fn note_gaps(position: &mut Position, memory: &mut [PowerGap]) -> Result<(), Fail> {
+        // Stays: the number is the record that is noted.
         for n in 1..41u32 {
             note_gap(position, memory, n, n + 1000)?;
         }
@@ -201,7 +200,7 @@ mod tests {
 
     #[test]
     fn copies_gaps(rt: HostRuntime) -> Result<(), Fail> {
-        let mut memory = [NO_GAP; 30];
+        let mut memory = [PowerGap::default(); 30];
         let mut position = Position::fresh(30);
         note_gaps(&mut position, &mut memory)?;
         assert!(rt; position.volume() <= 30);
@@ -229,7 +228,7 @@ mod tests {
 
     #[test]
     fn copies_events(rt: HostRuntime) -> Result<(), Fail> {
-        let mut memory = [NO_EVENT; 30];
+        let mut memory = [Event::default(); 30];
         let mut position = Position::fresh(30);
         note_events(&mut position, &mut memory)?;
         assert!(rt; position.volume() <= 30);
