@@ -1,4 +1,4 @@
--- Four cells compared one by one hold the four bytes.
+-- Four cells compared one by one hold the four bytes. (Without this, search closes the goal only near its limits.)
 use Rattle.std.proofs.Common.{◌≡◌, ℕ, zero, suc, ◌+◌, ◌<◌, Bool, true, List, length, get_or, Decides, arith}
 use Rattle.access.specs.Decision.{holds_four}
 use Rattle.std.proofs.lemmas.Bool.{and_from, and_parts, eq-eqb, eqb-true}

@@ -3,8 +3,6 @@ use Rattle.std.specs.Prelude.{ℕ, ◌+◌, ◌*◌, Bool, true, false, cond, no
 use Rattle.access.specs.declared.Access.{Access}
 use Rattle.access.specs.declared.Destination.{Destination}
 use Rattle.access.specs.declared.Destination.TheVariants.{Own, Broadcast, Foreign}
-use Rattle.access.specs.declared.Permitted.{Permitted}
-use Rattle.access.specs.declared.Permitted.TheVariants.{Nobody, Setpoints, Counters}
 use Rattle.refusal.specs.Told.{Answer, granted, refused}
 use Rattle.refusal.specs.declared.Company.TheVariants.{Alone}
 use Rattle.request.specs.Asked.{Asked, command_of, prepare, change_address, read_address, change_password, permit, readings, write_setpoint, set_speed, set_clock, read_clock, write_marks, read_marks, synchronise, read_setting, clear_log, log_state, log_records, write_configuration, read_configuration, write_output_mask}
@@ -13,10 +11,11 @@ use Rattle.request.specs.declared.rows.Needs.{Needs}
 use Rattle.request.specs.declared.rows.Needs.TheVariants.{Nothing, Preparation, PreparationAndPermission}
 use Rattle.request.specs.Writes.{password_cell}
 use Rattle.request.specs.declared.rows.PasswordKind.{PasswordKind}
+use Rattle.request.specs.declared.rows.PasswordKind.TheVariants.{Setpoint, Counter}
 
 -- Neither prepared nor permitted.
 abbrev pub closed : Access
-closed = record { prepared = false; permitted = Nobody }
+closed = record { prepared = false; permitted = None }
 
 -- What stands is not what is needed: preparation, and permission of kind 0.
 abbrev pub unprepared : Access → Needs → Bool
@@ -24,10 +23,10 @@ unprepared access Nothing = false
 unprepared access Preparation = not access.prepared
 unprepared access PreparationAndPermission = not access.prepared
 
-abbrev pub permits_setpoints : Permitted → Bool
-permits_setpoints Nobody = false
-permits_setpoints Setpoints = true
-permits_setpoints Counters = false
+abbrev pub permits_setpoints : Option PasswordKind → Bool
+permits_setpoints None = false
+permits_setpoints (Some Setpoint) = true
+permits_setpoints (Some Counter) = false
 
 abbrev pub unpermitted : Access → Needs → Bool
 unpermitted access Nothing = false
@@ -92,31 +91,31 @@ verdict access address held is_right asked =
     (cond is_right (granted tt) (refused 10 Alone)))))
 
 -- What a request to permit asks for: setpoints for kind 0, else counters.
-abbrev pub kind_asked : Asked → Permitted
-kind_asked (prepare key) = Nobody
-kind_asked (change_address own new) = Nobody
-kind_asked read_address = Nobody
-kind_asked (change_password kind old new) = Nobody
-kind_asked (permit password kind) = cond (kind == 0) Setpoints Counters
-kind_asked (readings mask) = Nobody
-kind_asked (write_setpoint number setpoint) = Nobody
-kind_asked (set_speed code) = Nobody
-kind_asked (set_clock date season) = Nobody
-kind_asked (read_clock form) = Nobody
-kind_asked (write_marks marks) = Nobody
-kind_asked read_marks = Nobody
-kind_asked synchronise = Nobody
-kind_asked (read_setting number which) = Nobody
-kind_asked (clear_log log password) = Nobody
-kind_asked (log_state log) = Nobody
-kind_asked (log_records log index count) = Nobody
-kind_asked (write_configuration bits events inputs debounce) = Nobody
-kind_asked read_configuration = Nobody
-kind_asked (write_output_mask number mask) = Nobody
+abbrev pub kind_asked : Asked → Option PasswordKind
+kind_asked (prepare key) = None
+kind_asked (change_address own new) = None
+kind_asked read_address = None
+kind_asked (change_password kind old new) = None
+kind_asked (permit password kind) = Some (cond (kind == 0) Setpoint Counter)
+kind_asked (readings mask) = None
+kind_asked (write_setpoint number setpoint) = None
+kind_asked (set_speed code) = None
+kind_asked (set_clock date season) = None
+kind_asked (read_clock form) = None
+kind_asked (write_marks marks) = None
+kind_asked read_marks = None
+kind_asked synchronise = None
+kind_asked (read_setting number which) = None
+kind_asked (clear_log log password) = None
+kind_asked (log_state log) = None
+kind_asked (log_records log index count) = None
+kind_asked (write_configuration bits events inputs debounce) = None
+kind_asked read_configuration = None
+kind_asked (write_output_mask number mask) = None
 
 -- How a granted command moves what stands: 0x01 prepares, 0x06 permits a kind in the place of an earlier
 -- one, neither ends the other, and every other command ends both.
-abbrev pub stepped : Access → ℕ → Permitted → Access
+abbrev pub stepped : Access → ℕ → Option PasswordKind → Access
 stepped access command kind =
     cond (command == 0x01) (record { prepared = true; permitted = access.permitted })
     (cond (command == 0x06) (record { prepared = access.prepared; permitted = kind }) closed)
@@ -125,3 +124,8 @@ stepped access command kind =
 abbrev pub afterwards : {T : Type 0} → Answer T → Access → Asked → Access
 afterwards (granted x) access asked = stepped access (command_of asked) (kind_asked asked)
 afterwards (refused number company) access asked = closed
+
+-- An answer without the value that it grants.
+abbrev pub bare : {T : Type 0} → Answer T → Answer Unit
+bare (granted x) = granted tt
+bare (refused number company) = refused number company

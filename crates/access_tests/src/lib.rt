@@ -3,9 +3,11 @@
 
 #[cfg(test)]
 mod tests {
-    use access::{Access, Destination, Permitted, decide, destination_of};
+    use access::{Access, Destination, decide, destination_of};
     use refusal::Refusal;
     use request::Request;
+    use request::checked::{Checked, Row};
+    use request::rows::PasswordKind;
     use std::process::Abort;
     use std::test::Fail;
     use store::flat::Flat;
@@ -14,11 +16,12 @@ mod tests {
     // One request: its command and parameters, the number it is refused with (0: granted), and what stands
     // after it.
     struct Case {
+        // Stays: commands and numbers of refusals are the bytes that were worked out by hand.
         command: u8,
         parameters: [u8; 9],
         number: u8,
         prepared: bool,
-        permitted: Permitted,
+        permitted: Option<PasswordKind>,
     }
 
     const CASES: [Case; 28] = [
@@ -28,14 +31,14 @@ mod tests {
             parameters: [0, 1, 0, 0, 0, 0, 0, 0, 0],
             number: 6,
             prepared: false,
-            permitted: Permitted::Nobody,
+            permitted: None,
         },
         Case {
             command: 0x01,
             parameters: [0xa5, 0, 0, 0, 0, 0, 0, 0, 0],
             number: 0,
             prepared: true,
-            permitted: Permitted::Nobody,
+            permitted: None,
         },
         // prepared, not permitted
         Case {
@@ -43,14 +46,14 @@ mod tests {
             parameters: [0, 1, 0, 0, 0, 0, 0, 0, 0],
             number: 7,
             prepared: false,
-            permitted: Permitted::Nobody,
+            permitted: None,
         },
         Case {
             command: 0x06,
             parameters: [1, 2, 3, 4, 0, 0, 0, 0, 0],
             number: 0,
             prepared: false,
-            permitted: Permitted::Setpoints,
+            permitted: Some(PasswordKind::Setpoint),
         },
         // neither ends the other
         Case {
@@ -58,7 +61,7 @@ mod tests {
             parameters: [0xa5, 0, 0, 0, 0, 0, 0, 0, 0],
             number: 0,
             prepared: true,
-            permitted: Permitted::Setpoints,
+            permitted: Some(PasswordKind::Setpoint),
         },
         // 16 setpoints, numbered from 0
         Case {
@@ -66,14 +69,14 @@ mod tests {
             parameters: [0x10, 1, 0, 0, 0, 0, 0, 0, 0],
             number: 8,
             prepared: false,
-            permitted: Permitted::Nobody,
+            permitted: None,
         },
         Case {
             command: 0x01,
             parameters: [0xa5, 0, 0, 0, 0, 0, 0, 0, 0],
             number: 0,
             prepared: true,
-            permitted: Permitted::Nobody,
+            permitted: None,
         },
         // a wrong password ends preparation
         Case {
@@ -81,7 +84,7 @@ mod tests {
             parameters: [1, 2, 3, 5, 0, 0, 0, 0, 0],
             number: 10,
             prepared: false,
-            permitted: Permitted::Nobody,
+            permitted: None,
         },
         // parameters before passwords
         Case {
@@ -89,14 +92,14 @@ mod tests {
             parameters: [9, 9, 9, 9, 2, 0, 0, 0, 0],
             number: 8,
             prepared: false,
-            permitted: Permitted::Nobody,
+            permitted: None,
         },
         Case {
             command: 0x06,
             parameters: [5, 6, 7, 8, 1, 0, 0, 0, 0],
             number: 0,
             prepared: false,
-            permitted: Permitted::Counters,
+            permitted: Some(PasswordKind::Counter),
         },
         // another kind in its place
         Case {
@@ -104,21 +107,21 @@ mod tests {
             parameters: [1, 2, 3, 4, 0, 0, 0, 0, 0],
             number: 0,
             prepared: false,
-            permitted: Permitted::Setpoints,
+            permitted: Some(PasswordKind::Setpoint),
         },
         Case {
             command: 0x06,
             parameters: [5, 6, 7, 8, 1, 0, 0, 0, 0],
             number: 0,
             prepared: false,
-            permitted: Permitted::Counters,
+            permitted: Some(PasswordKind::Counter),
         },
         Case {
             command: 0x01,
             parameters: [0xa5, 0, 0, 0, 0, 0, 0, 0, 0],
             number: 0,
             prepared: true,
-            permitted: Permitted::Counters,
+            permitted: Some(PasswordKind::Counter),
         },
         // counters do not write setpoints
         Case {
@@ -126,21 +129,21 @@ mod tests {
             parameters: [0, 1, 0, 0, 0, 0, 0, 0, 0],
             number: 7,
             prepared: false,
-            permitted: Permitted::Nobody,
+            permitted: None,
         },
         Case {
             command: 0x01,
             parameters: [0xa5, 0, 0, 0, 0, 0, 0, 0, 0],
             number: 0,
             prepared: true,
-            permitted: Permitted::Nobody,
+            permitted: None,
         },
         Case {
             command: 0x06,
             parameters: [1, 2, 3, 4, 0, 0, 0, 0, 0],
             number: 0,
             prepared: true,
-            permitted: Permitted::Setpoints,
+            permitted: Some(PasswordKind::Setpoint),
         },
         // granted, and both end
         Case {
@@ -148,7 +151,7 @@ mod tests {
             parameters: [0x0f, 0x80, 1, 0, 0, 0, 0, 0, 0],
             number: 0,
             prepared: false,
-            permitted: Permitted::Nobody,
+            permitted: None,
         },
         // three records are held
         Case {
@@ -156,14 +159,14 @@ mod tests {
             parameters: [4, 3, 0, 1, 0, 0, 0, 0, 0],
             number: 9,
             prepared: false,
-            permitted: Permitted::Nobody,
+            permitted: None,
         },
         Case {
             command: 0x1f,
             parameters: [4, 2, 0, 1, 0, 0, 0, 0, 0],
             number: 0,
             prepared: false,
-            permitted: Permitted::Nobody,
+            permitted: None,
         },
         // another key
         Case {
@@ -171,14 +174,14 @@ mod tests {
             parameters: [0xa4, 0, 0, 0, 0, 0, 0, 0, 0],
             number: 8,
             prepared: false,
-            permitted: Permitted::Nobody,
+            permitted: None,
         },
         Case {
             command: 0x01,
             parameters: [0xa5, 0, 0, 0, 0, 0, 0, 0, 0],
             number: 0,
             prepared: true,
-            permitted: Permitted::Nobody,
+            permitted: None,
         },
         // the counter password
         Case {
@@ -186,14 +189,14 @@ mod tests {
             parameters: [4, 5, 6, 7, 9, 0, 0, 0, 0],
             number: 10,
             prepared: false,
-            permitted: Permitted::Nobody,
+            permitted: None,
         },
         Case {
             command: 0x01,
             parameters: [0xa5, 0, 0, 0, 0, 0, 0, 0, 0],
             number: 0,
             prepared: true,
-            permitted: Permitted::Nobody,
+            permitted: None,
         },
         // no such log
         Case {
@@ -201,14 +204,14 @@ mod tests {
             parameters: [5, 5, 6, 7, 8, 0, 0, 0, 0],
             number: 8,
             prepared: false,
-            permitted: Permitted::Nobody,
+            permitted: None,
         },
         Case {
             command: 0x01,
             parameters: [0xa5, 0, 0, 0, 0, 0, 0, 0, 0],
             number: 0,
             prepared: true,
-            permitted: Permitted::Nobody,
+            permitted: None,
         },
         // broadcast is no address of its own
         Case {
@@ -216,21 +219,21 @@ mod tests {
             parameters: [0x12, 1, 0xff, 0, 0, 0, 0, 0, 0],
             number: 8,
             prepared: false,
-            permitted: Permitted::Nobody,
+            permitted: None,
         },
         Case {
             command: 0x01,
             parameters: [0xa5, 0, 0, 0, 0, 0, 0, 0, 0],
             number: 0,
             prepared: true,
-            permitted: Permitted::Nobody,
+            permitted: None,
         },
         Case {
             command: 0x02,
             parameters: [0x12, 1, 0x34, 0, 0, 0, 0, 0, 0],
             number: 0,
             prepared: false,
-            permitted: Permitted::Nobody,
+            permitted: None,
         },
     ];
 
@@ -241,19 +244,17 @@ mod tests {
         bytes
     }
 
-    fn number(answer: Result<(), Refusal>) -> u8 {
-        match answer {
-            Ok(()) => 0,
-            Err(refusal) => refusal.number(),
-        }
+    fn number(answer: Result<Checked, Refusal>) -> u8 {
+        answer.map_or_else(|refusal| refusal.number(), |_| 0)
     }
 
     // One request at a converter whose logs hold three records.
     fn serve(rt: &impl Abort, access: &mut Access, store: &Flat, case: &Case) -> Result<(), Fail> {
-        let Some(request) = Request::of(case.command, &case.parameters) else {
-            return Err(Fail::new("unknown command"));
-        };
-        assert_eq!(rt; number(decide(access, &request, store, 3)), case.number);
+        let request = Request::of(case.command, &case.parameters).ok_or("unknown command")?;
+        assert_eq!(rt;
+            number(decide(access, &Row { request }, store, 3)),
+            case.number
+        );
         assert_eq!(rt;
             *access,
             Access {
@@ -335,17 +336,13 @@ mod tests {
     ];
 
     fn write_one(rt: &impl Abort, store: &mut Flat, case: &Write) -> Result<(), Fail> {
-        let Some(request) = Request::of(case.command, &case.parameters) else {
-            return Err(Fail::new("unknown command"));
-        };
+        let request = Request::of(case.command, &case.parameters).ok_or("unknown command")?;
         let mut access = Access {
             prepared: true,
-            permitted: Permitted::Setpoints,
+            permitted: Some(PasswordKind::Setpoint),
         };
-        match decide(&mut access, &request, store, 0) {
-            Ok(()) => request.write_to(store),
-            Err(_) => return Err(Fail::new("refused")),
-        }
+        let checked = decide(&mut access, &Row { request }, store, 0)?;
+        checked.row.write_to(store);
         assert_eq!(rt; store.read(case.cell), case.byte);
         Ok(())
     }

@@ -1,32 +1,23 @@
 // The memories that are lent to each call.
 ghost use Rattle.std.specs.Prelude.{◌≤◌, vec_len};
 
+use converter::hearing::REPLY_BYTES;
+use orders::Lending;
 use records::{Event, PowerGap};
 use std::alloc::{AllocError, Global};
-
-const NO_EVENT: Event = Event {
-    reason: 0,
-    seconds: 0,
-    ticks: 0,
-    tu: 0,
-    tc: 0,
-    value: 0,
-    period: 0,
-};
-
-const NO_GAP: PowerGap = PowerGap { off: 0, on: 0 };
 
 // What a fresh reply memory has in each byte.
 const FILLING: u8 = 0xee;
 
 // The memory of a log; the whole of it is lent where no number is said.
+// Stays: the number lent is beside the memory, since the records past it are kept and can be lent again.
 #[derive(Drop)]
 pub struct Records<K> {
     pub all: Vec<K>,
     lent: Option<usize>,
 }
 
-impl<K: Copy> Records<K> {
+impl<K: Copy + Default> Records<K> {
     fn none(heap: Global) -> Records<K> {
         Records {
             all: Vec::new(heap),
@@ -35,32 +26,35 @@ impl<K: Copy> Records<K> {
     }
 
     // Makes the memory as long as that at least.
-    fn reach(&mut self, count: usize, blank: K) -> Result<(), AllocError> {
+    fn reach(&mut self, count: usize) -> Result<(), AllocError> {
         if self.all.len() < count {
-            self.all.resize(count, blank)?;
+            self.all.resize(count, K::default())?;
         }
         Ok(())
     }
 
     // From here on that many records are lent.
-    fn lend(&mut self, count: usize, blank: K) -> Result<(), AllocError> {
-        self.reach(count, blank)?;
+    fn lend(&mut self, count: usize) -> Result<(), AllocError> {
+        self.reach(count)?;
         self.lent = Some(count);
         Ok(())
     }
 
     // How many records are lent.
-    pub fn lent_count(&self) -> usize
+    fn lent_count(&self) -> usize
         ensures { result ≤ vec_len self.now.all }
     {
-        match self.lent {
-            None => self.all.len(),
-            Some(count) => count.min(self.all.len()),
-        }
+        let all = self.all.len();
+        self.lent.map_or(all, |count| count.min(all))
     }
 
     pub fn lent(&self) -> &[K] {
-        &self.all.as_slice()[0..self.lent_count()]
+        &self.all[..self.lent_count()]
+    }
+
+    pub fn lent_mut(&mut self) -> &mut [K] {
+        let count = self.lent_count();
+        &mut self.all[..count]
     }
 }
 
@@ -75,27 +69,27 @@ impl Bench {
     // A full reply memory, and no log memory yet.
     pub fn new(heap: Global) -> Result<Bench, AllocError> {
         Ok(Bench {
-            reply: vec![in heap; FILLING; 295]?,
+            reply: vec![in heap; FILLING; REPLY_BYTES]?,
             events: Records::none(heap),
             gaps: Records::none(heap),
         })
     }
 
-    // A fresh reply memory of that length.
-    pub fn renew_reply(&mut self, heap: Global, bytes: usize) -> Result<(), AllocError> {
-        self.reply = vec![in heap; FILLING; bytes]?;
-        Ok(())
-    }
-
     // The log memories have room for these volumes.
     pub fn hold(&mut self, events: usize, gaps: usize) -> Result<(), AllocError> {
-        self.events.reach(events, NO_EVENT)?;
-        self.gaps.reach(gaps, NO_GAP)
+        self.events.reach(events)?;
+        self.gaps.reach(gaps)
     }
 
-    // From here on that many records of each log memory are lent.
-    pub fn lend(&mut self, events: usize, gaps: usize) -> Result<(), AllocError> {
-        self.events.lend(events, NO_EVENT)?;
-        self.gaps.lend(gaps, NO_GAP)
+    // Lends a fresh reply memory, or other numbers of records, from here on.
+    pub fn obey(&mut self, heap: Global, lending: Lending) -> Result<(), AllocError> {
+        match lending {
+            Lending::Reply { bytes } => self.reply = vec![in heap; FILLING; bytes]?,
+            Lending::Memory { events, gaps } => {
+                self.events.lend(events)?;
+                self.gaps.lend(gaps)?;
+            }
+        }
+        Ok(())
     }
 }

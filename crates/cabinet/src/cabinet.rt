@@ -1,13 +1,12 @@
 // A cabinet: what it is started with, and then its converter, with the memories beside it.
 use crate::bench::Bench;
-use crate::calls::act;
+use crate::calls::Desk;
+use crate::chosen::Chosen;
 use crate::telling::Answer;
 use converter::Converter;
-use orders::{Order, StoreKind};
+use orders::{Order, Setting, StoreKind};
 use std::alloc::{AllocError, Global};
-use store::Filled;
-use store::appending::Appending;
-use store::flat::Flat;
+use thiserror::Error;
 
 // What the converter will be started over.
 #[derive(Clone, Copy)]
@@ -19,8 +18,7 @@ struct Setup {
 #[derive(Drop)]
 enum Stage {
     Before(Setup),
-    Flat(Converter<Flat>),
-    Appending(Converter<Appending>),
+    Started(Converter<Chosen>),
 }
 
 #[derive(Drop)]
@@ -29,78 +27,32 @@ pub struct Cabinet {
     bench: Bench,
 }
 
-// When an order may be given.
-#[derive(Clone, Copy)]
-enum Moment {
-    Before,
-    Always,
-    Started,
-}
-
-fn moment_of(order: &Order) -> Moment {
-    match order {
-        Order::Store(_) => Moment::Before,
-        Order::Cell { .. } => Moment::Before,
-        Order::Start { .. } => Moment::Before,
-        Order::Reply { .. } => Moment::Always,
-        Order::Memory { .. } => Moment::Always,
-        _ => Moment::Started,
-    }
+// Why an order can't be obeyed now.
+#[derive(Clone, Copy, Debug, Error)]
+pub enum Untimely {
+    #[error("expected `start` before this order")]
+    Early,
+    #[error("expected this order only before `start`")]
+    Late,
 }
 
 impl Setup {
-    fn start(&self, events: usize, gaps: usize) -> Stage {
-        match self.kind {
-            StoreKind::Flat => {
-                Stage::Flat(Converter::start(Flat::filled(self.cells), events, gaps))
-            }
-            StoreKind::Appending => {
-                let store = Appending::filled(self.cells);
-                Stage::Appending(Converter::start(store, events, gaps))
-            }
-        }
-    }
-
-    // Takes what is said before the start, and starts.
-    fn obey(mut self, rt: &HostRuntime, order: &Order) -> anyhow::Result<Stage> {
-        match order {
-            Order::Store(kind) => self.kind = *kind,
-            Order::Cell { number, byte } => self.cells[*number as usize] = *byte,
-            Order::Start { events, gaps } => {
-                let answer = Answer::Started;
-                println!(rt; "{answer}")?;
-                return Ok(self.start(*events, *gaps));
-            }
-            _ => {}
-        }
-        Ok(Stage::Before(self))
-    }
-}
-
-// Sets the memories that are lent from here on.
-fn set_memory(bench: &mut Bench, heap: Global, order: &Order) -> Result<(), AllocError> {
-    match order {
-        Order::Start { events, gaps } => bench.hold(*events, *gaps),
-        Order::Reply { bytes } => bench.renew_reply(heap, *bytes),
-        Order::Memory { events, gaps } => bench.lend(*events, *gaps),
-        _ => Ok(()),
-    }
-}
-
-impl Stage {
-    fn obey(self, rt: &HostRuntime, bench: &mut Bench, order: &Order) -> anyhow::Result<Stage> {
-        set_memory(bench, rt.alloc(), order)?;
-        match self {
-            Stage::Before(setup) => setup.obey(rt, order),
-            Stage::Flat(mut converter) => {
-                act(rt, &mut converter, bench, order)?;
-                Ok(Stage::Flat(converter))
-            }
-            Stage::Appending(mut converter) => {
-                act(rt, &mut converter, bench, order)?;
-                Ok(Stage::Appending(converter))
+    // Takes what is said before the start, and at the start itself gives the converter.
+    fn obey(
+        &mut self,
+        bench: &mut Bench,
+        setting: Setting,
+    ) -> Result<Option<Converter<Chosen>>, AllocError> {
+        match setting {
+            Setting::Store(kind) => self.kind = kind,
+            Setting::Cell { number, byte } => self.cells[usize::from(number)] = byte,
+            Setting::Start { events, gaps } => {
+                bench.hold(events, gaps)?;
+                let store = Chosen::filled(self.kind, self.cells);
+                return Ok(Some(Converter::start(store, events, gaps)));
             }
         }
+        Ok(None)
     }
 }
 
@@ -117,20 +69,36 @@ impl Cabinet {
         })
     }
 
-    // What was expected, where this is not the moment for an order.
-    pub fn stops(&self, order: &Order) -> Option<&'static str> {
-        match (&self.stage, moment_of(order)) {
-            (Stage::Before(_), Moment::Started) => Some("expected `start` before this order"),
-            (Stage::Before(_), _) => None,
-            (_, Moment::Before) => Some("expected this order only before `start`"),
-            (_, _) => None,
+    // Whether this is the moment for an order.
+    pub fn takes(&self, order: &Order) -> Result<(), Untimely> {
+        match (&self.stage, order) {
+            (Stage::Before(_), Order::Call(_)) => Err(Untimely::Early),
+            (Stage::Started(_), Order::Setting(_)) => Err(Untimely::Late),
+            _ => Ok(()),
         }
     }
 
-    // Does what an order says, at its moment, and gives the cabinet back.
-    pub fn obey(self, rt: &HostRuntime, order: &Order) -> anyhow::Result<Cabinet> {
-        let Cabinet { stage, mut bench } = self;
-        let stage = stage.obey(rt, &mut bench, order)?;
-        Ok(Cabinet { stage, bench })
+    // Does what an order says at its moment, and nothing at another.
+    pub fn obey(&mut self, rt: &HostRuntime, order: &Order) -> anyhow::Result<()> {
+        match (&mut self.stage, order) {
+            (_, Order::Lending(lending)) => self.bench.obey(rt.alloc(), *lending)?,
+            (Stage::Before(setup), Order::Setting(setting)) => {
+                if let Some(converter) = setup.obey(&mut self.bench, *setting)? {
+                    self.stage = Stage::Started(converter);
+                    println!(rt; "{}", Answer::Started)?;
+                }
+            }
+            (Stage::Started(converter), Order::Call(call)) => {
+                let bench = &mut self.bench;
+                Desk {
+                    rt,
+                    converter,
+                    bench,
+                }
+                .act(call)?;
+            }
+            _ => {}
+        }
+        Ok(())
     }
 }

@@ -1,96 +1,79 @@
-// The calls of a converter over any store, each with its answer printed.
+// The calls of a converter, each with its answer printed.
 use crate::bench::Bench;
-use crate::frames::frame_for;
-use crate::showing::show;
+use crate::chosen::Chosen;
 use crate::telling::{Answer, tell_heard};
 use converter::Converter;
 use converter::noting::Note;
-use orders::Order;
+use orders::Call;
 use refusal::Refusal;
+use station::frame_for;
 use std::io;
-use store::Store;
 use wording::Hex;
 
-fn tell(rt: &HostRuntime, res: Result<(), Refusal>) -> io::Result<()> {
-    let answer = match res {
-        Ok(()) => Answer::Granted,
-        Err(refusal) => Answer::Refused(refusal),
-    };
+// A converter that is started, the memories that are lent to it, and where its answers are printed.
+#[derive(Drop)]
+pub struct Desk<'a> {
+    pub rt: &'a HostRuntime,
+    pub converter: &'a mut Converter<Chosen>,
+    pub bench: &'a mut Bench,
+}
+
+fn tell(rt: &HostRuntime, done: Result<(), Refusal>) -> io::Result<()> {
+    let answer = done.map_or_else(Answer::Refused, |()| Answer::Granted);
     println!(rt; "{answer}")
 }
 
-fn hear<S: Store>(
-    rt: &HostRuntime,
-    converter: &mut Converter<S>,
-    bench: &mut Bench,
-    line: &[u8],
-) -> io::Result<()> {
-    let result = converter.hear(
-        line,
-        bench.reply.as_mut_slice(),
-        bench.events.lent(),
-        bench.gaps.lent(),
-    );
-    match result {
-        Ok(heard) => tell_heard(rt, heard, bench.reply.as_slice()),
-        Err(unheard) => {
-            let answer = Answer::Unheard(unheard);
-            println!(rt; "{answer}")
-        }
-    }
-}
-
-// Writes a request, tells it, and has it heard alone in a line.
-fn send<S: Store>(
-    rt: &HostRuntime,
-    converter: &mut Converter<S>,
-    bench: &mut Bench,
-    frame: [u8; 18],
-) -> io::Result<()> {
-    let hex = Hex { bytes: &frame };
-    println!(rt; "frame{hex}")?;
-    hear(rt, converter, bench, &frame)
-}
-
-fn note<S: Store>(
-    converter: &mut Converter<S>,
-    bench: &mut Bench,
-    note: Note,
-) -> Result<(), Refusal> {
-    let events = bench.events.lent_count();
-    let gaps = bench.gaps.lent_count();
-    converter.note(
-        note,
-        &mut bench.events.all.as_mut_slice()[0..events],
-        &mut bench.gaps.all.as_mut_slice()[0..gaps],
-    )
-}
-
-// Does what an order says to a converter that is started.
-pub fn act<S: Store>(
-    rt: &HostRuntime,
-    converter: &mut Converter<S>,
-    bench: &mut Bench,
-    order: &Order,
-) -> anyhow::Result<()> {
-    match order {
-        Order::Hear { line } => hear(rt, converter, bench, line.as_slice())?,
-        Order::Send {
-            address,
-            command,
-            parameters,
-        } => send(
+impl Desk<'_> {
+    fn hear(self, line: &[u8]) -> io::Result<()> {
+        let Desk {
             rt,
             converter,
             bench,
-            frame_for(*address, *command, parameters),
-        )?,
-        Order::Advance { ticks } => tell(rt, converter.advance(*ticks))?,
-        Order::Measure { readings } => tell(rt, converter.measure(readings.as_slice()))?,
-        Order::NoteEvent(report) => tell(rt, note(converter, bench, Note::Event(*report)))?,
-        Order::NoteGap(gap) => tell(rt, note(converter, bench, Note::Gap(*gap)))?,
-        Order::Show(shown) => show(rt, converter, bench, *shown)?,
-        _ => {}
+        } = self;
+        let result = converter.hear(
+            line,
+            bench.reply.as_mut_slice(),
+            bench.events.lent(),
+            bench.gaps.lent(),
+        );
+        match result {
+            Ok(heard) => tell_heard(rt, heard, bench.reply.as_slice()),
+            Err(unheard) => println!(rt; "{}", Answer::Unheard(unheard)),
+        }
     }
-    Ok(())
+
+    // Writes a request, tells it, and has it heard alone in a line.
+    fn send(self, frame: [u8; 18]) -> io::Result<()> {
+        let hex = Hex { bytes: &frame };
+        println!(self.rt; "frame{hex}")?;
+        self.hear(&frame)
+    }
+
+    fn note(self, note: Note) -> io::Result<()> {
+        let Desk {
+            rt,
+            converter,
+            bench,
+        } = self;
+        let done = converter.note(note, bench.events.lent_mut(), bench.gaps.lent_mut());
+        tell(rt, done)
+    }
+
+    // Does what is asked of the converter.
+    pub fn act(self, call: &Call) -> anyhow::Result<()> {
+        match call {
+            Call::Hear { line } => self.hear(line)?,
+            Call::Send {
+                address,
+                command,
+                parameters,
+            } => self.send(frame_for(*address, *command, parameters))?,
+            Call::Advance { ticks } => tell(self.rt, self.converter.advance(*ticks))?,
+            Call::Measure { readings } => tell(self.rt, self.converter.measure(readings))?,
+            Call::NoteEvent(report) => self.note(Note::Event(*report))?,
+            Call::NoteGap(gap) => self.note(Note::Gap(*gap))?,
+            Call::Show(shown) => self.show(*shown)?,
+        }
+        Ok(())
+    }
 }

@@ -4,7 +4,7 @@
 mod bench;
 mod cabinet;
 mod calls;
-mod frames;
+mod chosen;
 mod showing;
 mod telling;
 
@@ -20,12 +20,9 @@ fn main(rt: HostRuntime) -> anyhow::Result<()> {
 fn run(rt: &HostRuntime) -> anyhow::Result<()> {
     let heap = rt.alloc();
     let mut cabinet = Cabinet::new(heap)?;
-    for (i, text) in rt.lines(heap).enumerate() {
-        let number = i.saturating_add(1);
-        match text {
-            Ok(text) => cabinet = take_line(rt, cabinet, number, text.as_str())?,
-            Err(error) => return Err(anyhow!(format!(in heap; "line {number}: {error}")?)),
-        }
+    for (number, text) in (1usize..).zip(rt.lines(heap)) {
+        let text = text.map_err(|error| anyhow!("line {number}: {error}"))?;
+        take_line(rt, &mut cabinet, number, text.as_str())?;
     }
     Ok(())
 }
@@ -33,21 +30,18 @@ fn run(rt: &HostRuntime) -> anyhow::Result<()> {
 // Does what a line orders; a line that is no order for this moment is refused with its number.
 fn take_line(
     rt: &HostRuntime,
-    cabinet: Cabinet,
+    cabinet: &mut Cabinet,
     number: usize,
     text: &str,
-) -> anyhow::Result<Cabinet> {
-    let heap = rt.alloc();
-    match read(text, heap) {
-        Ok(None) => Ok(cabinet),
-        Err(fault) => Err(anyhow!(format!(in heap; "line {number}: {fault}")?)),
-        Ok(Some(order)) => {
-            if let Some(words) = cabinet.stops(&order) {
-                return Err(anyhow!(format!(in heap; "line {number}: {words}")?));
-            }
-            let given = text.trim();
-            println!(rt; "> {given}")?;
-            cabinet.obey(rt, &order)
-        }
-    }
+) -> anyhow::Result<()> {
+    let read = read(text, rt.alloc()).map_err(|fault| anyhow!("line {number}: {fault}"))?;
+    let Some(order) = read else {
+        return Ok(());
+    };
+    cabinet
+        .takes(&order)
+        .map_err(|untimely| anyhow!("line {number}: {untimely}"))?;
+    let given = text.trim();
+    println!(rt; "> {given}")?;
+    cabinet.obey(rt, &order)
 }

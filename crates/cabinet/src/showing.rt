@@ -1,125 +1,99 @@
 // What stands in a converter, printed.
-use crate::bench::Bench;
-use access::{Access, Permitted};
-use converter::Converter;
+use crate::calls::Desk;
+use access::Access;
+use calendar::{Clock, DateTime};
 use orders::Shown;
 use records::Kind;
+use request::rows::PasswordKind;
 use ring_log::Position;
 use ring_log::reading::record_at;
-use std::{fmt, io};
-use store::Store;
+use std::io;
 use wording::Hex;
 
-// The nine bytes of a date.
-#[derive(Clone, Copy)]
-struct Date {
-    bytes: [u8; 9],
-}
-
-impl fmt::Display for Date {
-    fn fmt<W: fmt::Write>(&self, f: &mut fmt::Formatter<W>) -> fmt::Result {
-        let [
-            year,
-            month,
-            day,
-            hour,
-            minute,
-            second,
-            ticks,
-            weekday,
-            season,
-        ] = self.bytes;
-        write!(
-            f,
-            "20{year:02}-{month:02}-{day:02} {hour:02}:{minute:02}:{second:02}"
-        )?;
-        write!(f, " {ticks}/256 weekday {weekday} season {season}")
-    }
-}
-
-fn permitted_in_words(permitted: Permitted) -> &'static str {
+// Stays: a type round the enum of another crate would hold this match and be made once.
+fn permitted_in_words(permitted: Option<PasswordKind>) -> &'static str {
     match permitted {
-        Permitted::Nobody => "no",
-        Permitted::Setpoints => "0",
-        Permitted::Counters => "1",
+        None => "no",
+        Some(PasswordKind::Setpoint) => "0",
+        Some(PasswordKind::Counter) => "1",
     }
 }
 
-fn show_access(rt: &HostRuntime, access: &Access) -> io::Result<()> {
-    let prepared = if access.prepared { "yes" } else { "no" };
-    let permitted = permitted_in_words(access.permitted);
-    println!(rt; "prepared {prepared}, permitted {permitted}")
-}
-
-// Sixteen cells from the first on.
-fn row_of<S: Store>(converter: &Converter<S>, first: u8) -> [u8; 16] {
-    let mut row = [0u8; 16];
-    for column in 0..16u8 {
-        row[column as usize] = converter.cell(first.wrapping_add(column));
+impl Desk<'_> {
+    // Sixteen cells from the first on.
+    fn row_of(&self, first: u8) -> [u8; 16] {
+        let mut row = [0u8; 16];
+        for (cell, byte) in (first..=u8::MAX).zip(row.iter_mut()) {
+            *byte = self.converter.cell(cell);
+        }
+        row
     }
-    row
-}
 
-fn show_cells<S: Store>(rt: &HostRuntime, converter: &Converter<S>) -> io::Result<()> {
-    for row in 0..16u8 {
-        let first = 16 * row;
-        let bytes = row_of(converter, first);
-        let hex = Hex { bytes: &bytes };
-        println!(rt; "{first:02x}:{hex}")?;
+    fn show_cells(&self) -> io::Result<()> {
+        for first in (0..=u8::MAX).step_by(16) {
+            let bytes = self.row_of(first);
+            let hex = Hex { bytes: &bytes };
+            println!(self.rt; "{first:02x}:{hex}")?;
+        }
+        Ok(())
     }
-    Ok(())
-}
 
-// The records that a log holds, oldest first.
-fn show_log<K: Kind>(
-    rt: &HostRuntime,
-    number: u8,
-    position: &Position,
-    memory: &[K],
-) -> anyhow::Result<()> {
-    let held = position.held();
-    let volume = position.volume();
-    println!(rt; "log {number:#04x} holds {held} of {volume}")?;
-    let mut bytes = vec![in rt.alloc(); 0u8; K::width()]?;
-    for index in 0..held {
-        let Ok(record) = record_at(position, memory, index) else {
-            break;
-        };
-        record.put(bytes.as_mut_slice());
-        let hex = Hex {
-            bytes: bytes.as_slice(),
-        };
-        println!(rt; "{index}:{hex}")?;
+    fn show_clock(&self, clock: Clock) -> io::Result<()> {
+        let bytes = clock.date();
+        let date = DateTime::in_bytes(&bytes);
+        let [.., ticks, weekday, season] = bytes;
+        println!(self.rt; "clock {date} {ticks}/256 weekday {weekday} season {season}")
     }
-    Ok(())
-}
 
-pub fn show<S: Store>(
-    rt: &HostRuntime,
-    converter: &Converter<S>,
-    bench: &Bench,
-    shown: Shown,
-) -> anyhow::Result<()> {
-    let standing = converter.stands();
-    match shown {
-        Shown::Cells => show_cells(rt, converter)?,
-        Shown::Clock => {
-            let date = Date {
-                bytes: standing.clock.date(),
+    fn show_access(&self, access: Access) -> io::Result<()> {
+        // Stays: a bool prints as true or false, and a type that prints these two words would be made here alone.
+        let prepared = if access.prepared { "yes" } else { "no" };
+        let permitted = permitted_in_words(access.permitted);
+        println!(self.rt; "prepared {prepared}, permitted {permitted}")
+    }
+
+    // The records that a log holds, oldest first.
+    fn show_log<K: Kind>(
+        &self,
+        number: u8,
+        position: &Position,
+        memory: &[K],
+    ) -> anyhow::Result<()> {
+        let held = position.held();
+        let volume = position.volume();
+        println!(self.rt; "log {number:#04x} holds {held} of {volume}")?;
+        let mut bytes = vec![in self.rt.alloc(); 0u8; K::width()]?;
+        // Stays: the index is what the log is asked for and what is printed. Each index is of a held record, so the loop
+        // ends early only over a memory shorter than the volume: none such comes here, but no type says so.
+        for index in 0..held {
+            let Ok(record) = record_at(position, memory, index) else {
+                break;
             };
-            println!(rt; "clock {date}")?;
+            record.put(bytes.as_mut_slice());
+            let hex = Hex { bytes: &bytes };
+            println!(self.rt; "{index}:{hex}")?;
         }
-        Shown::Access => show_access(rt, &standing.access)?,
-        Shown::Logs => {
-            show_log(rt, 0x04, &standing.events, bench.events.all.as_slice())?;
-            show_log(rt, 0x0e, &standing.gaps, bench.gaps.all.as_slice())?;
-        }
-        Shown::Reply => {
-            let hex = Hex {
-                bytes: bench.reply.as_slice(),
-            };
-            println!(rt; "reply memory{hex}")?;
-        }
+        Ok(())
     }
-    Ok(())
+
+    pub fn show(&self, shown: Shown) -> anyhow::Result<()> {
+        let standing = self.converter.stands();
+        match shown {
+            Shown::Cells => self.show_cells()?,
+            Shown::Clock => self.show_clock(standing.clock)?,
+            Shown::Access => self.show_access(standing.access)?,
+            // Stays: the numbers are printed only, each once beside the log that it names; they choose nothing.
+            Shown::Logs => {
+                self.show_log(0x04, &standing.events, &self.bench.events.all)?;
+                self.show_log(0x0e, &standing.gaps, &self.bench.gaps.all)?;
+            }
+            Shown::Reply => {
+                let hex = Hex {
+                    bytes: &self.bench.reply,
+                };
+                println!(self.rt; "reply memory{hex}")?;
+            }
+        }
+        Ok(())
+    }
 }

@@ -2,8 +2,9 @@
 use converter::{Heard, Unheard};
 use refusal::{Company, Refusal};
 use std::{fmt, io};
-use wording::{Hex, words};
+use wording::{Hex, Refused};
 
+// Stays: a Result would hold two of these four; that it started, and a line refused, are no answers of a call.
 #[derive(Clone, Copy)]
 pub enum Answer {
     Started,
@@ -13,42 +14,23 @@ pub enum Answer {
     Unheard(Unheard),
 }
 
+// How much of the line is used up.
+// Stays: an Option would be taken apart here at once, with 0 for none.
 fn used_of(company: Company) -> usize {
     match company {
         Company::Used(used) => used,
-        Company::Alone => 0,
-        Company::Block(_) => 0,
-    }
-}
-
-#[derive(Clone, Copy)]
-struct Refused {
-    refusal: Refusal,
-}
-
-impl fmt::Display for Refused {
-    fn fmt<W: fmt::Write>(&self, f: &mut fmt::Formatter<W>) -> fmt::Result {
-        let number = self.refusal.number();
-        let why = words(self.refusal);
-        write!(f, "refused {number} ({why})")
+        Company::Alone | Company::Block(_) => 0,
     }
 }
 
 impl fmt::Display for Answer {
     fn fmt<W: fmt::Write>(&self, f: &mut fmt::Formatter<W>) -> fmt::Result {
-        match self {
+        match *self {
             Answer::Started => write!(f, "started"),
             Answer::Granted => write!(f, "granted"),
-            Answer::Refused(refusal) => {
-                let refused = Refused { refusal: *refusal };
-                write!(f, "{refused}")
-            }
-            Answer::Unheard(unheard) => {
-                let refused = Refused {
-                    refusal: unheard.refusal,
-                };
-                let used = used_of(unheard.company);
-                write!(f, "{refused}, used {used}")
+            Answer::Refused(refusal) => write!(f, "{}", Refused(refusal)),
+            Answer::Unheard(Unheard { refusal, company }) => {
+                write!(f, "{}, used {}", Refused(refusal), used_of(company))
             }
         }
     }
@@ -62,7 +44,7 @@ pub fn tell_heard(rt: &HostRuntime, heard: Heard, memory: &[u8]) -> io::Result<(
         return println!(rt; "granted, used {used}, reply 0");
     }
     let hex = Hex {
-        bytes: &memory[0..length],
+        bytes: &memory[..length],
     };
     println!(rt; "granted, used {used}, reply {length}:{hex}")
 }

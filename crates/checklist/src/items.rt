@@ -1,8 +1,10 @@
 // The items of the checklist, and the steps that they are made of.
 use crate::answers::Answer;
+use converter::hearing::REPLY_BYTES;
 use converter::noting::Note;
 use records::Report;
 use runs::{Call, Lent};
+use std::fmt;
 
 // How many records each log takes, and how many of its memory are lent to a call.
 pub const VOLUME: usize = 3;
@@ -11,9 +13,6 @@ const LENT: Lent = Lent {
     events: VOLUME,
     gaps: VOLUME,
 };
-
-// The reply memory that hearing is given.
-const ROOM: usize = 295;
 
 #[derive(Clone, Copy, PartialEq, Eq)]
 pub enum Item {
@@ -25,6 +24,7 @@ pub enum Item {
 }
 
 // All items, in their order.
+// Stays: an enum has no list of its variants.
 pub const ITEMS: [Item; 5] = [
     Item::Noise,
     Item::Unprepared,
@@ -33,27 +33,33 @@ pub const ITEMS: [Item; 5] = [
     Item::Stores,
 ];
 
-impl Item {
-    // What the item does.
-    pub fn title(self) -> &'static str {
-        match self {
-            Item::Noise => "noise, then a frame",
-            Item::Unprepared => "a setpoint write without preparation, then a read-back",
-            Item::Password => "a wrong password before the right one",
-            Item::Rounds => "more events than the log takes, then record 0",
-            Item::Stores => "the same orders over the other store",
-        }
-    }
-
-    // What it would find.
-    pub fn danger(self) -> &'static str {
-        match self {
-            Item::Noise => "a listener that stops at a false head",
-            Item::Unprepared => "a write that slips in",
-            Item::Password => "an answer that gives part of it away",
-            Item::Rounds => "a position that began again at the wrong end",
-            Item::Stores => "settings that only one kind keeps",
-        }
+// Its number, what it does, and what it would find.
+impl fmt::Display for Item {
+    fn fmt<W: fmt::Write>(&self, f: &mut fmt::Formatter<W>) -> fmt::Result {
+        let number = *self as u8;
+        let (title, danger) = match self {
+            Item::Noise => (
+                "noise, then a frame",
+                "a listener that stops at a false head",
+            ),
+            Item::Unprepared => (
+                "a setpoint write without preparation, then a read-back",
+                "a write that slips in",
+            ),
+            Item::Password => (
+                "a wrong password before the right one",
+                "an answer that gives part of it away",
+            ),
+            Item::Rounds => (
+                "more events than the log takes, then record 0",
+                "a position that began again at the wrong end",
+            ),
+            Item::Stores => (
+                "the same orders over the other store",
+                "settings that only one kind keeps",
+            ),
+        };
+        write!(f, "{number}  {title} ({danger})")
     }
 }
 
@@ -70,6 +76,7 @@ pub enum Deed {
 pub struct Step {
     pub item: Item,
     pub told: &'static str,
+    // Stays: whether a step is told hangs on no other value of it.
     pub quiet: bool,
     pub deed: Deed,
     pub want: Answer,
@@ -81,7 +88,7 @@ impl Step {
         match &self.deed {
             Deed::Hear(line) => Call::Hear {
                 line: line.as_slice(),
-                room: ROOM,
+                room: REPLY_BYTES,
                 lent: LENT,
             },
             Deed::Advance(ticks) => Call::Advance { ticks: *ticks },

@@ -1,14 +1,15 @@
 // The steps of all items, in the order in which they are made.
-use crate::answers::{Answer, GRANTED, data, refused};
-use crate::frames::{frame_for, window_for};
+use crate::answers::{Answer, Brought, GRANTED, data, refused};
 use crate::items::{Deed, Item, Step};
 use crate::lines::{damaged, noisy};
 use crate::{ADDRESS, PASSWORD};
 use records::Report;
 use refusal::Refusal;
+use station::{frame_for, write_setpoint};
 use std::alloc::{AllocError, Global};
 
 // The commands that are asked, and the code of the log of events.
+// Stays: on the line any byte is a command or a log's code; the table of what they mean is the request's.
 const PERMIT: u8 = 0x06;
 
 const READ_CLOCK: u8 = 0x18;
@@ -38,11 +39,13 @@ pub const SEASONS: u8 = 54;
 struct Plan {
     heap: Global,
     item: Item,
+    // Stays: whether the next steps are told hangs on no other value.
     quiet: bool,
     steps: Vec<Step>,
 }
 
 impl Plan {
+    // Stays: `told` and `want` go side by side into the step that they make; a struct of them would be taken apart at once.
     fn add(&mut self, told: &'static str, deed: Deed, want: Answer) -> Result<(), AllocError> {
         self.steps.push(Step {
             item: self.item,
@@ -79,9 +82,9 @@ impl Plan {
         let lost = damaged(&frame_for(ADDRESS, SEASON, &marks(7)));
         let clock = frame_for(ADDRESS, READ_CLOCK, &[0; 9]);
         let line = noisy(self.heap, &lost, &clock)?;
-        let want = Answer::Data {
+        let want = Answer::Granted {
             used: 50,
-            data: [0, 1, 1, 0, 0, 0, 0, 6, 0, 0],
+            brought: Brought::Data([0, 1, 1, 0, 0, 0, 0, 6, 0, 0]),
         };
         self.add(
             "noise, damaged frame, then read clock",
@@ -92,7 +95,7 @@ impl Plan {
 
     fn unprepared(&mut self) -> Result<(), AllocError> {
         self.item = Item::Unprepared;
-        let [prepare, permit, write] = window_for(ADDRESS, &PASSWORD, &SETPOINT);
+        let [prepare, permit, write] = write_setpoint(ADDRESS, &PASSWORD, &SETPOINT);
         let number = [5, 0, 0, 0, 0, 0, 0, 0, 0];
         let before = data([73, 74, 75, 76, 77, 78, 79, 80, 0, 0]);
         let after = data([2, 1, 0x10, 0x27, 0, 1, 0x32, 0, 0, 0]);
@@ -149,10 +152,12 @@ impl Plan {
     }
 
     fn records(&mut self) -> Result<(), AllocError> {
-        let state = Answer::State {
+        let state = Answer::Granted {
             used: 18,
-            count: 2,
-            max: 0x8003,
+            brought: Brought::State {
+                count: 2,
+                max: 0x8003,
+            },
         };
         let log = [EVENTS, 0, 0, 0, 0, 0, 0, 0, 0];
         self.record("read record 0", 0, noted(3))?;
@@ -165,9 +170,10 @@ impl Plan {
     fn setpoints(&mut self) -> Result<(), AllocError> {
         self.item = Item::Stores;
         self.quiet = true;
+        // Stays: the number is what is written.
         for number in 0..SETPOINTS {
             let setpoint = [number, number, 1, 255 - number, 0, 0, 0, 0, number];
-            let [prepare, permit, write] = window_for(ADDRESS, &PASSWORD, &setpoint);
+            let [prepare, permit, write] = write_setpoint(ADDRESS, &PASSWORD, &setpoint);
             self.hear("one of many: prepare", &prepare, GRANTED)?;
             self.hear("one of many: permit", &permit, GRANTED)?;
             self.hear("one of many: write setpoint", &write, GRANTED)?;
@@ -176,6 +182,7 @@ impl Plan {
     }
 
     fn seasons(&mut self) -> Result<(), AllocError> {
+        // Stays: the turn makes the marks that are written.
         for turn in 0..SEASONS {
             let frame = frame_for(ADDRESS, SEASON, &marks(turn));
             self.hear("one of many: write season marks", &frame, GRANTED)?;
@@ -213,9 +220,9 @@ fn report(reason: u8) -> Report {
 
 // The record of the event with that reason.
 fn noted(reason: u8) -> Answer {
-    Answer::Record {
+    Answer::Granted {
         used: 18,
-        event: report(reason).at(10, 0),
+        brought: Brought::Record(report(reason).at(10, 0)),
     }
 }
 

@@ -8,19 +8,8 @@ use records::{Event, PowerGap};
 use runs::running::live;
 use runs::{Call, Slot};
 use std::alloc::{AllocError, Global};
+use std::array;
 use store::Filled;
-
-const NO_EVENT: Event = Event {
-    reason: 0,
-    seconds: 0,
-    ticks: 0,
-    tu: 0,
-    tc: 0,
-    value: 0,
-    period: 0,
-};
-
-const NO_GAP: PowerGap = PowerGap { off: 0, on: 0 };
 
 // What came of each call, and the converter at the end.
 #[derive(Drop)]
@@ -31,12 +20,8 @@ pub struct Outcome<S> {
 
 // Each cell holds its own number, but for the address and both passwords.
 fn cells() -> [u8; 256] {
-    let mut cells = [0u8; 256];
-    for cell in 0..=255u8 {
-        cells[cell as usize] = cell;
-    }
-    cells[0] = (ADDRESS % 256) as u8;
-    cells[1] = (ADDRESS / 256) as u8;
+    let mut cells = array::from_fn(|k| k as u8);
+    cells[..2].copy_from_slice(&ADDRESS.to_le_bytes());
     cells[3..7].copy_from_slice(&PASSWORD);
     cells[7..11].copy_from_slice(&COUNTER_PASSWORD);
     cells
@@ -44,11 +29,7 @@ fn cells() -> [u8; 256] {
 
 // The calls of the steps, in turn.
 pub fn calls_of(heap: Global, steps: &[Step]) -> Result<Vec<Call<'_>>, AllocError> {
-    let mut calls = Vec::new(heap);
-    for step in steps {
-        calls.push(step.call())?;
-    }
-    Ok(calls)
+    steps.iter().map(|step| step.call()).collect(heap)
 }
 
 // Makes the calls on a fresh converter over a store.
@@ -65,8 +46,8 @@ pub fn run_over<S: Filled + Drop>(
         VOLUME,
         calls,
         slots.as_mut_slice(),
-        &mut [NO_EVENT; VOLUME],
-        &mut [NO_GAP; VOLUME],
+        &mut [Event::default(); VOLUME],
+        &mut [PowerGap::default(); VOLUME],
     );
     Ok(Outcome { slots, converter })
 }

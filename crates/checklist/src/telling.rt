@@ -23,17 +23,9 @@ fn tell_step(rt: &HostRuntime, step: &Step, slot: &Slot) -> io::Result<()> {
     tell_line(rt, "  but wanted is", &step.want)
 }
 
-// The number of an item, what it does, and what it would find.
-pub fn tell_title(rt: &HostRuntime, item: Item) -> io::Result<()> {
-    let number = item as u8;
-    let title = item.title();
-    let danger = item.danger();
-    println!(rt; "{number}  {title} ({danger})")
-}
-
 // The steps of an item.
 pub fn tell_steps(rt: &HostRuntime, item: Item, steps: &[Step], slots: &[Slot]) -> io::Result<()> {
-    for (step, slot) in steps.iter().zip(slots.iter()) {
+    for (step, slot) in steps.iter().zip(slots) {
         if step.item == item {
             tell_step(rt, step, slot)?;
         }

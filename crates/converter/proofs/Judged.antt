@@ -1,24 +1,23 @@
--- The decision by destination.
-use Rattle.std.proofs.Common.{◌≡◌, ℕ, true, List, sym, ap, ◌∙◌}
+-- The decision on a request in its row.
+use Rattle.std.proofs.Common.{◌≡◌, Ok, Err, Result, IfOk, sym, refl, ap, ◌∙◌}
+use Rattle.access.specs.Decision.{afterwards, bare, kind_asked, stepped}
 use Rattle.access.specs.declared.Access.{Access}
-use Rattle.access.specs.declared.Destination.{Destination}
-use Rattle.access.specs.declared.Destination.TheVariants.{Own, Broadcast}
-use Rattle.converter.specs.Hearing.{carried, in_row, judged_for, standing, standing_for, with_access}
-use Rattle.device.specs.Life.{Life}
-use Rattle.refusal.specs.Told.{Answer}
-use Rattle.request.specs.Asked.{Asked, asked}
-use Rattle.std.proofs.lemmas.Bool.{cond-true}
+use Rattle.converter.specs.Hearing.{ruled, standing}
+use Rattle.converter.specs.Told.{judgement, requested}
+use Rattle.refusal.specs.Told.{Answer, answer, granted}
+use Rattle.refusal.specs.declared.Refusal.{Refusal}
+use Rattle.request.specs.Asked.{command_of, meant}
+use Rattle.request.specs.declared.checked.Checked.{Checked}
+use Rattle.request.specs.declared.checked.Row.{Row}
 
-module _ (l : Life) (d : Destination) (command : ℕ) (ps : List ℕ) (j : Answer Asked) (is : j ≡ in_row l (asked command ps)) where
-  pub own_told : d ≡ Own → j ≡ judged_for l d command ps
-  own_told e = is ∙ ap (λ x. judged_for l x command ps) (sym e)
+-- a decision on a request, where the request that is granted is the one decided on
+module _ (row : Row) where
+  pub ruled_as : (r : Result Checked Refusal) (v : Answer Unit) → bare (answer r) ≡ v → IfOk r (λ c. c.row ≡ row) →
+      judgement (requested r) ≡ ruled (meant row.request) v
+  ruled_as (Ok c) v told same = ap (λ (x : Row). granted (meant x.request)) same ∙ ap (ruled (meant row.request)) told
+  ruled_as (Err e) v told same = ap (ruled (meant row.request)) told
 
-  pub broadcast_told : d ≡ Broadcast → carried command ≡ true → j ≡ judged_for l d command ps
-  broadcast_told e t = is ∙ sym (cond-true _ _ _ t) ∙ ap (λ x. judged_for l x command ps) (sym e)
-
-module _ (l m : Life) (d : Destination) (j : Answer Asked) (access : Access) (is : m ≡ with_access l (standing j access)) where
-  pub own_moves : d ≡ Own → m ≡ with_access l (standing_for d j access)
-  own_moves e = is ∙ ap (λ x. with_access l (standing_for x j access)) (sym e)
-
-  pub broadcast_moves : d ≡ Broadcast → m ≡ with_access l (standing_for d j access)
-  broadcast_moves e = is ∙ ap (λ x. with_access l (standing_for x j access)) (sym e)
+  pub stands_as : (r : Result Checked Refusal) (access : Access) → IfOk r (λ c. c.row ≡ row) →
+      afterwards (answer r) access (meant row.request) ≡ standing (judgement (requested r)) access
+  stands_as (Ok c) access same = ap (λ (x : Row). stepped access (command_of (meant x.request)) (kind_asked (meant x.request))) (sym same)
+  stands_as (Err e) access same = refl

@@ -15,6 +15,7 @@ use Rattle.refusal.specs.Told.{Answer, company, granted, number, refused}
 use Rattle.refusal.specs.declared.Refusal.{Refusal}
 use Rattle.request.specs.Asked.{Asked, meant}
 use Rattle.request.specs.declared.Request.{Request}
+use Rattle.request.specs.declared.checked.Checked.{Checked}
 
 -- What a converter of the code is, with the memories of its logs.
 abbrev pub view : {S : Type 0} → (S → ℕ → ℕ) → Converter S → List Noted → List PowerGap → Life
@@ -39,6 +40,11 @@ note_call (Gap gap) events gaps = note_gap gap events gaps
 abbrev pub judgement : Result Request Refusal → Answer Asked
 judgement (Ok request) = granted (meant request)
 judgement (Err refusal) = refused (number refusal) (company refusal)
+
+-- The same decision where the request that is granted comes with what is known of it.
+abbrev pub requested : Result Checked Refusal → Result Request Refusal
+requested (Ok checked) = Ok checked.row.request
+requested (Err refusal) = Err refusal
 
 -- The answer of hear.
 abbrev pub hearing : Result Heard Unheard → Answer Hearing

@@ -4,24 +4,24 @@ ghost use Rattle.converter.specs.Calls.{Steps, hear, of_hearing, outcome};
 ghost use Rattle.converter.specs.Hearing.{replied, reply_length};
 ghost use Rattle.converter.specs.Told.{hearing, view};
 ghost use Rattle.device.specs.Life.{seen};
+ghost use Rattle.device.specs.Logs.{seen_with};
 ghost use Rattle.device.specs.Rows.{data_of, obeyed};
 ghost use Rattle.records.specs.declared.Event.{Event as Noted};
 ghost use Rattle.records.specs.declared.PowerGap.{PowerGap as Gap};
 ghost use Rattle.refusal.specs.Told.{number, used};
 ghost use Rattle.refusal.specs.declared.Company.TheVariants.{Used};
 ghost use Rattle.request.specs.Asked.{meant};
-ghost use Rattle.request.specs.Rows.{Numbered, NumberedRead, Sized};
 
 use crate::deciding::judge;
 use crate::finding::find;
 use crate::{Converter, Heard, Unheard};
 use access::{Destination, destination_of};
 use device::Inner;
-use device::logs::enough;
+use device::logs::{Memories, enough};
 use records::{Event, PowerGap};
 use refusal::Refusal;
 use reply_frame::write_reply;
-use request::Request;
+use request::checked::Checked;
 use store::Store;
 
 // The memory that every reply finds room in.
@@ -35,38 +35,31 @@ fn put_reply(destination: Destination, address: u16, payload: &[u8], reply: &mut
     ensures written { reply.new ≡ replied destination address payload.now reply.old }
 {
     match destination {
-        Destination::Own => match write_reply(reply, address, payload) {
-            Ok(length) => length,
-            Err(_) => 0,
-        },
-        Destination::Broadcast => 0,
-        Destination::Foreign => 0,
+        Destination::Own => write_reply(reply, address, payload).unwrap_or(0),
+        Destination::Broadcast | Destination::Foreign => 0,
     }
 }
 
 // Does what a granted request says, and replies to it.
 fn act<S: Store>(
     inner: &mut Inner<S>,
-    request: &Request,
+    checked: &Checked,
     destination: Destination,
     address: u16,
     reply: &mut [u8],
-    events: &[Event],
-    gaps: &[PowerGap],
+    memories: &Memories,
 ) -> usize
-    requires sized { Sized (meant request.now) }
-    requires numbered { Numbered (meant request.now) }
-    requires numbered_read { NumberedRead (meant request.now) }
-    requires events { (seen S.cells inner.old events.now gaps.now).events.volume ≤ length events.now }
-    requires gaps { (seen S.cells inner.old events.now gaps.now).gaps.volume ≤ length gaps.now }
+    requires events { (seen_with S.cells inner.old memories.now).events.volume ≤ length memories.now.events.now }
+    requires gaps { (seen_with S.cells inner.old memories.now).gaps.volume ≤ length memories.now.gaps.now }
     requires room { 295 ≤ length reply.old }
-    ensures obeyed { (es : List Noted) (gs : List Gap) → seen S.cells inner.new es gs ≡ obeyed (seen S.cells inner.old es gs) (meant request.now) }
-    ensures long { result ≡ reply_length destination (data_of (seen S.cells inner.old events.now gaps.now) (meant request.now)) }
-    ensures written { reply.new ≡ replied destination address (data_of (seen S.cells inner.old events.now gaps.now) (meant request.now)) reply.old }
+    ensures obeyed { (es : List Noted) (gs : List Gap) → seen S.cells inner.new es gs ≡ obeyed (seen S.cells inner.old es gs) (meant checked.now.row.request) }
+    ensures long { result ≡ reply_length destination (data_of (seen_with S.cells inner.old memories.now) (meant checked.now.row.request)) }
+    ensures written { reply.new ≡ replied destination address (data_of (seen_with S.cells inner.old memories.now) (meant checked.now.row.request)) reply.old }
 {
+    // Stays: the data stand at the start of memory of full length, with their number beside, since the device has no heap.
     let mut payload = [0u8; 251];
-    let length = inner.put_data(request, events, gaps, &mut payload);
-    inner.obey(request);
+    let length = inner.put_data(&checked.row, memories, &mut payload);
+    inner.obey(&checked.row);
     put_reply(destination, address, &payload[0..length], reply)
 }
 
@@ -79,6 +72,7 @@ impl<S: Store> Converter<S> {
     }
 
     // Hears a line: finds its first valid request, decides on it, does what it says, and replies.
+    // Stays: a host keeps the memories of both logs apart; a struct of two loans would be made at each call and taken apart.
     pub fn hear(
         &mut self,
         line: &[u8],
@@ -91,27 +85,28 @@ impl<S: Store> Converter<S> {
         if !self.has_room(reply.len(), events.len(), gaps.len()) {
             return Err(unheard(Refusal::LittleMemory, line.len(), 0));
         }
-        let Some(found) = find(line) else {
-            return Err(unheard(Refusal::NoRequest, line.len(), 0));
-        };
+        let found = find(line).ok_or(unheard(Refusal::NoRequest, line.len(), 0))?;
         let behind = found.place + 18;
         let address = found.frame.address;
         let destination = destination_of(&self.inner.store, address);
-        match judge(&mut self.inner, destination, &found.frame) {
-            Err(refusal) => Err(unheard(refusal, line.len(), behind)),
-            Ok(request) => Ok(Heard {
-                used: behind,
-                reply: act(
-                    &mut self.inner,
-                    &request,
-                    destination,
-                    address,
-                    reply,
-                    events,
-                    gaps,
-                ),
-            }),
-        }
+        let checked = judge(&mut self.inner, destination, &found.frame).map_err(|refusal| unheard(
+            refusal,
+            line.len(),
+            behind,
+        ))?;
+        let memories = Memories { events, gaps };
+        let reply = act(
+            &mut self.inner,
+            &checked,
+            destination,
+            address,
+            reply,
+            &memories,
+        );
+        Ok(Heard {
+            used: behind,
+            reply,
+        })
     }
 }
 

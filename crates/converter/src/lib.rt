@@ -25,21 +25,37 @@ pub struct Converter<S> {
 }
 
 // A line was heard: how many of its bytes are used up, and how long the reply is, 0 where there is none.
-#[derive(Clone, Copy)]
+// Stays: the length of a reply is a plain number: a caller cuts its memory by it, and there is nothing to cut at 0.
+#[derive(Clone, Copy, PartialEq, Eq, Debug)]
 pub struct Heard {
     pub used: usize,
     pub reply: usize,
 }
 
 // A line was refused: why, and how many of its bytes are used up.
-#[derive(Clone, Copy)]
+#[derive(Clone, Copy, PartialEq, Eq, Debug)]
 pub struct Unheard {
     pub refusal: Refusal,
     pub company: Company,
 }
 
+// The refusal of a call that looks through no line.
+impl From<Refusal> for Unheard {
+    ghost use Rattle.refusal.specs.Told.{company};
+
+    ghost from_gives = { λ refusal unheard. unheard ≡ record { refusal = refusal; company = company refusal } };
+
+    fn from(refusal: Refusal) -> Unheard {
+        Unheard {
+            refusal,
+            company: refusal.comes_with(),
+        }
+    }
+}
+
 impl<S: Store> Converter<S> {
     // A converter that nothing happened to yet; a volume above 32,767 counts as 32,767.
+    // Stays: a host tells two volumes; a struct of them would be made for this call and taken apart in it.
     pub fn start(store: S, volume: usize, gap_volume: usize) -> Converter<S>
         ensures { (events : List Noted) (gaps : List Gap) → view S.cells result events gaps ≡ fresh (S.cells store) volume gap_volume events gaps }
     {

@@ -3,27 +3,25 @@
 
 #[cfg(test)]
 mod tests {
+    use converter::Heard;
     use records::{Event, PowerGap};
     use refusal::Company;
     use reply_frame::read_reply;
-    use request_frame::write_request;
     use runs::running::live;
-    use runs::{Call, Grant, Lent, Slot};
-    use std::alloc::Global;
+    use runs::{Call, Lent, Slot};
+    use station::frame_for;
+    use std::alloc::{AllocError, Global};
     use std::process::Abort;
     use std::test::Fail;
     use store::Filled;
     use store::flat::Flat;
 
-    // What comes of a call: of hearing, with the bytes that are used up, or of another one.
-    #[derive(Clone, Copy, PartialEq, Eq, Debug)]
-    enum Answer {
-        Granted { used: usize, reply: usize },
-        Refused { number: u8, used: usize },
-        Other,
-    }
+    // What comes of a call: what hearing grants, or a refusal's number and what comes with it.
+    // Stays: refusals are wanted by the numbers that they are told by, as they were worked out elsewhere.
+    type Answer = Result<Option<Heard>, (u8, Company)>;
 
     // One request, and what is answered to it.
+    // Stays: on the line any byte is a command, also one that no converter knows.
     #[derive(Clone, Copy)]
     struct Case {
         address: u16,
@@ -32,43 +30,26 @@ mod tests {
         answer: Answer,
     }
 
-    const DONE: Answer = Answer::Granted {
+    const DONE: Answer = Ok(Some(Heard {
         used: 18,
         reply: 18,
-    };
+    }));
+
+    // A line of which so many bytes are used up, and a reply of so many.
+    fn granted(used: usize, reply: usize) -> Answer {
+        Ok(Some(Heard { used, reply }))
+    }
 
     // A refusal of a line that is one frame.
     fn refused(number: u8) -> Answer {
-        Answer::Refused { number, used: 18 }
+        Err((number, Company::Used(18)))
     }
 
     const LENT: Lent = Lent { events: 1, gaps: 1 };
 
-    const NO_EVENT: Event = Event {
-        reason: 0,
-        seconds: 0,
-        ticks: 0,
-        tu: 0,
-        tc: 0,
-        value: 0,
-        period: 0,
-    };
-
     fn answer_in(slot: &Slot) -> Answer {
-        match slot.result {
-            Ok(Grant::Heard(heard)) => Answer::Granted {
-                used: heard.used,
-                reply: heard.reply,
-            },
-            Ok(Grant::Done) => Answer::Other,
-            Err(unheard) => match unheard.company {
-                Company::Used(used) => Answer::Refused {
-                    number: unheard.refusal.number(),
-                    used,
-                },
-                _ => Answer::Other,
-            },
-        }
+        slot.result
+            .map_err(|unheard| (unheard.refusal.number(), unheard.company))
     }
 
     // Makes the calls on a converter with address 0x0001 and the passwords 1234 and 5678.
@@ -81,8 +62,8 @@ mod tests {
             1,
             calls,
             slots,
-            &mut [NO_EVENT; 1],
-            &mut [PowerGap { off: 0, on: 0 }; 1],
+            &mut [Event::default()],
+            &mut [PowerGap::default()],
         );
     }
 
@@ -94,22 +75,18 @@ mod tests {
         }
     }
 
-    fn frames_of(heap: Global, cases: &[Case]) -> Result<Vec<[u8; 18]>, Fail> {
-        let mut frames = Vec::new(heap);
-        for case in cases {
-            let mut frame = [0u8; 18];
-            write_request(&mut frame, case.address, case.command, &case.parameters)?;
-            frames.push(frame)?;
+    impl Case {
+        fn frame(&self) -> [u8; 18] {
+            frame_for(self.address, self.command, &self.parameters)
         }
-        Ok(frames)
     }
 
-    fn calls_of(heap: Global, frames: &[[u8; 18]]) -> Result<Vec<Call<'_>>, Fail> {
-        let mut calls = Vec::new(heap);
-        for frame in frames {
-            calls.push(hear(frame))?;
-        }
-        Ok(calls)
+    fn frames_of(heap: Global, cases: &[Case]) -> Result<Vec<[u8; 18]>, AllocError> {
+        cases.iter().map(|case| case.frame()).collect(heap)
+    }
+
+    fn calls_of(heap: Global, frames: &[[u8; 18]]) -> Result<Vec<Call<'_>>, AllocError> {
+        frames.iter().map(|frame| hear(frame)).collect(heap)
     }
 
     // The requests of a table are answered as it says, one after another.
@@ -154,7 +131,7 @@ mod tests {
             address: 0x00ff,
             command: 0x1b,
             parameters: [0; 9],
-            answer: Answer::Granted { used: 18, reply: 0 },
+            answer: granted(18, 0),
         };
         answered(&rt, rt.alloc(), &[synchronise])
     }
@@ -183,36 +160,28 @@ mod tests {
 
     // What a fresh converter answers to a line.
     fn answer_to(line: &[u8]) -> Answer {
-        let mut slots = [Slot::blank(); 1];
+        let mut slots = [Slot::blank()];
         run(&[hear(line)], &mut slots);
-        answer_in(&slots[0])
+        let [heard] = slots;
+        answer_in(&heard)
     }
 
     // Five bytes of noise before a request, a line without one, a line too short for one.
     #[test]
-    fn used_counts(rt: HostRuntime) -> Result<(), Fail> {
+    fn used_counts(rt: HostRuntime) {
         let mut line = [0xaau8; 23];
-        write_request(&mut line[5..23], 0x0001, 0x03, &[0; 9])?;
-        assert_eq!(rt;
-            answer_to(&line),
-            Answer::Granted {
-                used: 23,
-                reply: 18,
-            }
-        );
-        assert_eq!(rt; answer_to(&[0; 20]), Answer::Refused { number: 2, used: 3 });
-        assert_eq!(rt;
-            answer_to(&line[5..22]),
-            Answer::Refused { number: 2, used: 0 }
-        );
-        Ok(())
+        line[5..23].copy_from_slice(&frame_for(0x0001, 0x03, &[0; 9]));
+        assert_eq!(rt; answer_to(&line), granted(23, 18));
+        assert_eq!(rt; answer_to(&[0; 20]), Err((2, Company::Used(3))));
+        assert_eq!(rt; answer_to(&line[5..22]), Err((2, Company::Used(0))));
     }
 
     // What comes of a line after readings are taken.
     fn slot_after<'a>(readings: &'a [u8], line: &'a [u8]) -> Slot {
         let mut slots = [Slot::blank(); 2];
         run(&[Call::Measure { readings }, hear(line)], &mut slots);
-        slots[1]
+        let [_, heard] = slots;
+        heard
     }
 
     // Mask 0x000440 chooses 24 bytes from place 48 on and 5 from place 128 on: 29 data bytes, 41 on the line.
@@ -221,16 +190,9 @@ mod tests {
         let mut readings = [0x11u8; 175];
         readings[48..72].copy_from_slice(&[0x66; 24]);
         readings[128..133].copy_from_slice(&[0xaa; 5]);
-        let mut frame = [0u8; 18];
-        write_request(&mut frame, 0x0001, 0x07, &[0x40, 4, 0, 0, 0, 0, 0, 0, 0])?;
+        let frame = frame_for(0x0001, 0x07, &[0x40, 4, 0, 0, 0, 0, 0, 0, 0]);
         let slot = slot_after(&readings, &frame);
-        assert_eq!(rt;
-            answer_in(&slot),
-            Answer::Granted {
-                used: 18,
-                reply: 41,
-            }
-        );
+        assert_eq!(rt; answer_in(&slot), granted(18, 41));
         let mut data = [0u8; 29];
         let reply = read_reply(&slot.reply[0..41], &mut data)?;
         assert_eq!(rt; reply.length, 29);

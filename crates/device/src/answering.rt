@@ -3,20 +3,24 @@ ghost use Rattle.std.specs.Prelude.{◌≡◌, ◌+◌, ◌≤◌, true, List, l
 ghost use Rattle.records.specs.declared.Event.{Event as Noted};
 ghost use Rattle.records.specs.declared.PowerGap.{PowerGap as Gap};
 ghost use Rattle.device.specs.Life.{seen};
-ghost use Rattle.device.specs.Rows.{Puts, configuration, data_of, held_for, mask_of, setting_cell};
+ghost use Rattle.device.specs.Logs.{seen_with};
+ghost use Rattle.device.specs.Rows.{Puts, configuration, data_of, held_for, setting_cell};
 ghost use Rattle.request.specs.Asked.{meant};
-ghost use Rattle.request.specs.Rows.{NumberedRead, Sized, is_setting};
+ghost use Rattle.request.specs.Rows.{NumberedRead, is_setting};
 ghost use Rattle.store.specs.Cells.{span};
 
 use crate::Inner;
-use crate::logs::{held_by, put_records, put_state};
+use crate::logs::{Log, Memories, held_by, put_records, put_state};
 use readings::copy_readings;
-use records::{Event, PowerGap};
 use request::Request;
+use request::checked::Row;
+use request::rows::mask_number;
+use request::writes::{output_mask_cell, setpoint_cell};
 use store::Store;
 use store::neighbours::read_cells;
 
 // Puts bytes at the start of `out`.
+// Stays: data are put into lent memory and their number is told, since the device has no heap.
 pub(crate) fn put(out: &mut [u8], bytes: &[u8]) -> usize
     requires { length bytes.now ≤ length out.old }
     ensures { Puts bytes.now result out.old out.new }
@@ -35,24 +39,16 @@ fn put_span<S: Store>(store: &S, first: u8, n: usize, out: &mut [u8]) -> usize
     n
 }
 
-// The mask of readings as a number.
-fn mask_of(mask: &[u8]) -> u32
-    requires { length mask.now ≡ 3 }
-    ensures { result ≡ mask_of mask.now }
-{
-    u32::from(mask[0]) + 256 * u32::from(mask[1]) + 65536 * u32::from(mask[2])
-}
-
 // The first cell of a setpoint or an output mask.
+// Stays: an enum of setpoint and output mask would be made of the byte for this one test, and dropped.
 fn setting_cell(number: u8, which: u8) -> u8
     requires { is_setting number which ≡ true }
     ensures is { result ≡ setting_cell number which }
     ensures fits { result + 8 ≤ 256 }
 {
-    if which == 0 {
-        33 + 8 * number
-    } else {
-        161 + 8 * number
+    match which {
+        0 => setpoint_cell(number),
+        _ => output_mask_cell(number),
     }
 }
 
@@ -81,29 +77,24 @@ impl<S: Store> Inner<S> {
         ensures { (events : List Noted) (gaps : List Gap) → result ≡ held_for (seen S.cells self.now events gaps) (meant request.now) }
     {
         match *request {
-            Request::LogRecords { log, .. } => held_by(&self.positions, log),
+            Request::LogRecords { log, .. } => held_by(&self.positions, Log::from(log)),
             _ => 0,
         }
     }
 
     // Puts the data of the reply to a granted request at the start of `out`, and tells how many they are.
-    pub fn put_data(
-        &self,
-        request: &Request,
-        events: &[Event],
-        gaps: &[PowerGap],
-        out: &mut [u8],
-    ) -> usize
-        requires sized { Sized (meant request.now) }
-        requires numbered_read { NumberedRead (meant request.now) }
-        requires events { (seen S.cells self.now events.now gaps.now).events.volume ≤ length events.now }
-        requires gaps { (seen S.cells self.now events.now gaps.now).gaps.volume ≤ length gaps.now }
+    // Stays: room for the most data is asked of any memory; an array of just so many bytes would ask more of callers.
+    // Stays: a checked request would ask for more, that what is written is within its cells.
+    pub fn put_data(&self, row: &Row, memories: &Memories, out: &mut [u8]) -> usize
+        requires numbered_read { NumberedRead (meant row.now.request) }
+        requires events { (seen_with S.cells self.now memories.now).events.volume ≤ length memories.now.events.now }
+        requires gaps { (seen_with S.cells self.now memories.now).gaps.volume ≤ length memories.now.gaps.now }
         requires room { 251 ≤ length out.old }
-        ensures puts { Puts (data_of (seen S.cells self.now events.now gaps.now) (meant request.now)) result out.old out.new }
+        ensures puts { Puts (data_of (seen_with S.cells self.now memories.now) (meant row.now.request)) result out.old out.new }
         ensures most { result ≤ 251 }
     {
-        match *request {
-            Request::Readings { mask } => copy_readings(mask_of(mask), &self.readings, out),
+        match row.request {
+            Request::Readings { mask } => copy_readings(mask_number(mask), &self.readings, out),
             Request::ReadClock { .. } => put(out, &self.clock.date()),
             Request::ReadMarks => put_span(&self.store, 11, 6, out),
             Request::ReadSetting { number, which } => put_span(
@@ -112,14 +103,13 @@ impl<S: Store> Inner<S> {
                 8,
                 out,
             ),
-            Request::LogState { log } => put_state(&self.positions, log, out),
+            Request::LogState { log } => put_state(&self.positions, Log::from(log), out),
             Request::LogRecords { log, index, count } => put_records(
                 &self.positions,
-                log,
+                Log::from(log),
                 index,
                 count,
-                events,
-                gaps,
+                memories,
                 out,
             ),
             Request::ReadConfiguration => put(out, &configuration_of(&self.store)),

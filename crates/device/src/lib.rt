@@ -22,11 +22,13 @@ pub struct Inner<S> {
     pub access: Access,
     pub clock: Clock,
     pub readings: [u8; 175],
+    // Stays: a table of two positions, one of which is lent to be changed, is a form that the project keeps.
     pub positions: [Position; 2],
 }
 
 impl<S: Store> Inner<S> {
     // A converter over a store that nothing happened to yet, with the volumes of both logs.
+    // Stays: the volumes come one by one, as a host tells them; a struct of two would be taken apart at once.
     pub fn start(store: S, volume: usize, gap_volume: usize) -> Inner<S>
         ensures { (events : List Noted) (gaps : List Gap) → seen S.cells result events gaps ≡ fresh (S.cells store) volume gap_volume events gaps }
     {

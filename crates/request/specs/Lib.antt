@@ -1,4 +1,5 @@
 pub mod Asked
+pub mod Known
 pub mod Reading
 pub mod Rows
 pub mod Tried

@@ -10,10 +10,12 @@ ghost use Rattle.std.specs.Option.{option_map};
 use refusal::Refusal;
 use request_frame::Request as Frame;
 
+pub mod checked;
 pub mod rows;
 pub mod writes;
 
 // What a request asks. Parts of several bytes are parts of the line.
+// Stays: kinds, codes and logs are bytes as they came: they are looked at after preparation and permission, and may be refused.
 #[derive(Clone, Copy)]
 pub enum Request<'a> {
     // 0x01: prepares for a write, where the key is right.
@@ -104,13 +106,6 @@ pub enum Request<'a> {
     },
 }
 
-// A number of two bytes, low byte first.
-fn word(low: u8, high: u8) -> u16
-    ensures { result ≡ low + 256 * high }
-{
-    u16::from(low) + 256 * u16::from(high)
-}
-
 impl<'a> Request<'a> {
     // What a command with its nine parameters asks, if there is such a command.
     pub fn of(command: u8, p: &'a [u8]) -> Option<Request<'a>>
@@ -161,8 +156,8 @@ impl<'a> Request<'a> {
             0x1e => Some(Request::LogState { log: p[0] }),
             0x1f => Some(Request::LogRecords {
                 log: p[0],
-                index: word(p[1], p[2]),
-                count: word(p[3], p[4]),
+                index: u16::from_le_bytes([p[1], p[2]]),
+                count: u16::from_le_bytes([p[3], p[4]]),
             }),
             0x2b => Some(Request::WriteConfiguration {
                 bits: p[0],
@@ -179,20 +174,11 @@ impl<'a> Request<'a> {
         }
     }
 
-    // What a frame of the line asks. A command that is in no row is refused.
-    pub fn read(frame: &Frame<'a>) -> Result<Request<'a>, Refusal>
-        ensures { Asks frame.now.command frame.now.parameters.now result }
-    {
-        match Request::of(frame.command, frame.parameters) {
-            Some(request) => Ok(request),
-            None => Err(Refusal::UnknownCommand),
-        }
-    }
-
     // The code of its command.
     pub fn code(&self) -> u8
         ensures { result ≡ command_of (meant self.now) }
     {
+        // Stays: cases with parts have no number that `as` could take.
         match self {
             Request::Prepare { .. } => 0x01,
             Request::ChangeAddress { .. } => 0x02,
@@ -215,5 +201,16 @@ impl<'a> Request<'a> {
             Request::ReadConfiguration => 0x2c,
             Request::WriteOutputMask { .. } => 0x2e,
         }
+    }
+}
+
+// What a frame of the line asks. A command that is in no row is refused.
+impl<'a> TryFrom<&Frame<'a>> for Request<'a> {
+    type Error = Refusal;
+
+    ghost try_from_gives = { λ frame answer. Asks frame.now.command frame.now.parameters.now answer };
+
+    fn try_from(frame: &Frame<'a>) -> Result<Request<'a>, Refusal> {
+        Request::of(frame.command, frame.parameters).ok_or(Refusal::UnknownCommand)
     }
 }

@@ -1,14 +1,14 @@
 -- One call more of a run that the code makes.
-use Rattle.std.proofs.Common.{◌≡◌, ℕ, ◌+◌, ◌<◌, ◌≤◌, min, List, [], ◌∷◌, ◌++◌, length, get_or, take, drop, set, sym, refl, ap, ◌∙◌, subst, arith, length-set}
+use Rattle.std.proofs.Common.{◌≡◌, ℕ, ◌+◌, ◌<◌, List, [], ◌∷◌, ◌++◌, length, get_or, take, drop, set, sym, refl, ap, ◌∙◌, subst, arith, length-drop, length-set}
 use Rattle.converter.specs.Calls.{Steps}
 use Rattle.device.specs.Life.{Life}
 use Rattle.records.specs.declared.Event.{Event}
 use Rattle.records.specs.declared.PowerGap.{PowerGap}
 use Rattle.runs.specs.History.{Ran, Turn}
-use Rattle.runs.specs.Made.{Made, MadeAll, MadeBy, call_of, outcome_of, rest_of}
+use Rattle.runs.specs.Made.{Made, MadeAll, call_of, outcome_of, rest_of}
 use Rattle.runs.specs.declared.Call.{Call as Order}
 use Rattle.runs.specs.declared.Slot.{Slot}
-use Rattle.std.proofs.lemmas.List.{drop-drop, drop-set-lt, get_or-drop, length-take-le, take_more, take_more_set}
+use Rattle.std.proofs.lemmas.List.{drop-drop, drop-set-lt, drop_more, get_or-drop, length-take-le, take_more, take_more_set}
 
 -- the newest turn of a history is what the last order made
 made_last : (os : List Order) (bs cs : List Slot) (h : List Turn) (o : Order) (b c : Slot) (t : Turn) → length bs ≡ length os → length cs ≡ length os →
@@ -47,31 +47,25 @@ later_slots : (bs cs : List Slot) (i : ℕ) (c : Slot) → drop i cs ≡ drop i 
 later_slots bs cs i c same =
     drop-set-lt (i + 1) cs i c (omega arith) ∙ sym (drop-drop 1 i cs) ∙ ap (drop 1) same ∙ drop-drop 1 i bs
 
+-- the order that the rest of the orders begins with
+at_head : (os rest : List Order) (i : ℕ) (o : Order) → drop i os ≡ o ∷ rest → (i < length os) × (get_or os i o ≡ o) × (rest ≡ drop (i + 1) os)
+at_head os rest i o is =
+    let within : i < length os = omega (arith, length-drop i os, ap length is) in
+    let whole : get_or os i o ∷ drop (i + 1) os ≡ o ∷ rest = sym (drop_more os i o within) ∙ is in
+    (within, cc, cc)
+
 -- one call more
-module _ (first here next : Life) (os : List Order) (bs cs : List Slot) (i : ℕ) (d : Order) (e c : Slot) (es : List Event) (gs : List PowerGap) where
-  pub run_more : i < length os → i < length bs → length cs ≡ length bs → drop i cs ≡ drop i bs →
+module _ (first here next : Life) (os rest : List Order) (bs cs : List Slot) (i : ℕ) (o : Order) (e c : Slot) (es : List Event) (gs : List PowerGap) where
+  pub run_more : drop i os ≡ o ∷ rest → i < length bs → length cs ≡ length bs → drop i cs ≡ drop i bs →
       ((h : List Turn) × MadeAll (take i os) (take i bs) (take i cs) h × Ran first h here) →
-      Steps here (call_of (get_or os i d) (get_or cs i e)) (outcome_of (get_or os i d) c es gs) next → rest_of (get_or os i d) c ≡ rest_of (get_or os i d) (get_or cs i e) →
-      (length (set cs i c) ≡ length bs) × (drop (i + 1) (set cs i c) ≡ drop (i + 1) bs)
+      Steps here (call_of o (get_or cs i e)) (outcome_of o c es gs) next → rest_of o c ≡ rest_of o (get_or cs i e) →
+      (i < length os) × (rest ≡ drop (i + 1) os) × (length (set cs i c) ≡ length bs) × (drop (i + 1) (set cs i c) ≡ drop (i + 1) bs)
       × ((h : List Turn) × MadeAll (take (i + 1) os) (take (i + 1) bs) (take (i + 1) (set cs i c)) h × Ran first h next)
-  run_more p q same from (h, made, ran) step rest =
-      let o = get_or os i d in
+  run_more ahead q same from (h, made, ran) step kept =
+      let (p, head, later) = at_head os rest i o ahead in
       let there = slot_there bs cs i e from in
       let t : Turn = record { call = call_of o (get_or cs i e); came = outcome_of o c es gs } in
       let m : Made o (get_or bs i e) c t =
-      record { call = ap (call_of o) there; result = refl; reply = refl; rest = rest ∙ ap (rest_of o) there } in
-      (length-set cs i c ∙ same, later_slots bs cs i c from, (t ∷ h, made_more os bs cs i h d e c t p q same made m, (here, ran, step)))
-
--- all calls
-pub run_all : (first here : Life) (os : List Order) (bs cs : List Slot) (i n : ℕ) → i ≤ n → n ≤ i → n ≡ min (length os) (length bs) → drop i cs ≡ drop i bs →
-    ((h : List Turn) × MadeAll (take i os) (take i bs) (take i cs) h × Ran first h here) →
-    (h : List Turn) × MadeBy os bs cs h × Ran first h here
-run_all first here os bs cs i n low high is from (h, made, ran) =
-    let at : i ≡ min (length os) (length bs) = omega arith in (
-      h,
-      record {
-        made = subst (λ (k : ℕ). MadeAll (take k os) (take k bs) (take k cs) h) at made;
-        behind = subst (λ (k : ℕ). drop k cs ≡ drop k bs) at from;
-      },
-      ran,
-    )
+      record { call = ap (call_of o) there; result = refl; reply = refl; rest = kept ∙ ap (rest_of o) there } in
+      let m' = subst (λ (x : Order). Made x (get_or bs i e) c t) (sym head) m in
+      (p, later, length-set cs i c ∙ same, later_slots bs cs i c from, (t ∷ h, made_more os bs cs i h o e c t p q same made m', (here, ran, step)))

@@ -1,5 +1,5 @@
 -- A call that is lent a part of the log memories is the call with all of them.
-use Rattle.std.proofs.Common.{◌≡◌, ℕ, ◌-◌, ◌<◌, ◌≤◌, min, Bool, true, false, cond, ◌||◌, eqb, ltb, List, [], ◌++◌, length, take, drop, set, Some, None, Option, sym, refl, ap, ◌∙◌, subst, ap₂, ⊎_elim, arith, take-append-drop, length-take}
+use Rattle.std.proofs.Common.{◌≡◌, ℕ, ◌<◌, ◌≤◌, Bool, true, false, cond, ◌||◌, eqb, ltb, List, [], ◌++◌, length, take, drop, set, Some, None, Option, sym, refl, ap, ◌∙◌, subst, ap₂, arith, take-append-drop, length-take}
 use Rattle.access.specs.declared.Destination.{Destination}
 use Rattle.access.specs.declared.Destination.TheVariants.{Own, Broadcast, Foreign}
 use Rattle.access.specs.Decision.{own, right, verdict}
@@ -21,8 +21,9 @@ use Rattle.records.specs.declared.Report.{Report}
 use Rattle.refusal.specs.Told.{Answer, granted, refused}
 use Rattle.refusal.specs.declared.Company.TheVariants.{Alone}
 use Rattle.request.specs.Asked.{Asked, asked, prepare, change_address, read_address, change_password, permit, readings, write_setpoint, set_speed, set_clock, read_clock, write_marks, read_marks, synchronise, read_setting, clear_log, log_state, log_records, write_configuration, read_configuration, write_output_mask}
-use Rattle.std.proofs.lemmas.List.{drop_all, set-append_left, take_all, take-take}
-use Rattle.std.proofs.lemmas.Bool.{cases_lt, false≢true}
+use Rattle.std.proofs.Math.Seq.{take-length}
+use Rattle.std.proofs.lemmas.List.{set-append_left, take-take}
+use Rattle.std.proofs.lemmas.Bool.{or_parts}
 use Rattle.std.proofs.lemmas.Bool.Decides.{nat_tests}
 
 -- a log with another memory
@@ -40,36 +41,6 @@ filled_with l events gaps = record {
   gaps = over l.gaps gaps;
 }
 
-take_least : {K : Type 0} (n : ℕ) (xs : List K) → take (min n (length xs)) xs ≡ take n xs
-take_least {K} n xs =
-    ⊎_elim
-    (λ few. let is : min n (length xs) ≡ n = omega arith in ap (λ (k : ℕ). take k xs) is)
-    (λ all.
-    let is : min n (length xs) ≡ length xs = omega arith in
-    ap (λ (k : ℕ). take k xs) is ∙ take_all (length xs) xs (omega arith) ∙ sym (take_all n xs all))
-    (cases_lt n (length xs))
-
--- the part of a list that is lent
-pub lent_part : {K : Type 0} (n : ℕ) (xs : List K) → take (min n (length xs) - 0) (drop 0 xs) ≡ take n xs
-lent_part n xs =
-    let same : min n (length xs) - 0 ≡ min n (length xs) = omega arith in
-    ap (λ (k : ℕ). take k xs) same ∙ take_least n xs
-
-drop_least : {K : Type 0} (n : ℕ) (xs : List K) → drop (min n (length xs)) xs ≡ drop n xs
-drop_least {K} n xs =
-    ⊎_elim
-    (λ few. let is : min n (length xs) ≡ n = omega arith in ap (λ (k : ℕ). drop k xs) is)
-    (λ all.
-    let is : min n (length xs) ≡ length xs = omega arith in
-    ap (λ (k : ℕ). drop k xs) is ∙ drop_all (length xs) xs (omega arith) ∙ sym (drop_all n xs all))
-    (cases_lt n (length xs))
-
--- and the rest of it
-pub lent_rest : {K : Type 0} (n : ℕ) (xs : List K) → drop (min n (length xs) - 0) (drop 0 xs) ≡ drop n xs
-lent_rest n xs =
-    let same : min n (length xs) - 0 ≡ min n (length xs) = omega arith in
-    ap (λ (k : ℕ). drop k xs) same ∙ drop_least n xs
-
 -- a log holds the same records in a part of its memory that is not under its volume
 held_part : {K : Type 0} (v c : ℕ) (r : Bool) (n : ℕ) (m : List K) → c ≤ v → v ≤ length (take n m) → around v c r (take n m) ≡ around v c r m
 held_part v c r n m most room =
@@ -77,10 +48,6 @@ held_part v c r n m most room =
     let counted = take-take c n m (omega arith) in
     let volume = take-take v n m (omega arith) in
     cc
-
-or_false : (a b : Bool) → (a || b) ≡ false → b ≡ false
-or_false true b e = absurd (false≢true (sym e))
-or_false false b e = e
 
 -- the numbers of a log are lawful
 abbrev pub Lawful : Life → Type 0
@@ -120,10 +87,6 @@ module _ (l : Life) (es : List Event) (gs : List PowerGap) where
       by true = refl
       by false = refl
 
--- all of a memory that is lent is its length
-lent_all : {K : Type 0} (xs : List K) → length (take (length xs) xs) ≡ length xs
-lent_all xs = ap length (take_all (length xs) xs (omega arith))
-
 module _ (l : Life) (e g : ℕ) (lawful : Lawful l) where
   abbrev es : List Event
   es = l.events.memory
@@ -136,7 +99,7 @@ module _ (l : Life) (e g : ℕ) (lawful : Lawful l) where
   partly = filled_with l (take e es) (take g gs)
 
   pub short_same : short partly (length (take e es)) (length (take g gs)) ≡ short l e g
-  short_same = ap₂ (λ (a b : ℕ). ltb a l.events.volume || ltb b l.gaps.volume) (lent_all (take e es)) (lent_all (take g gs))
+  short_same = ap₂ (λ (a b : ℕ). ltb a l.events.volume || ltb b l.gaps.volume) (ap length (take-length (take e es))) (ap length (take-length (take g gs)))
 
   -- the memory suffices
   enough : short l e g ≡ false → (l.events.volume ≤ length (take e es)) × (l.gaps.volume ≤ length (take g gs))
@@ -212,7 +175,7 @@ module _ (l : Life) (e g : ℕ) (lawful : Lawful l) where
     hears_whole true t (o, is) =
         (ap₂ (λ x y. outcome (filled_with m es gs) x y) (ap (λ x. x.result) o) (ap (λ x. x.reply) o), ap (λ x. filled_with x es gs) is)
     hears_whole false t (found, finds, o, is) =
-        let no : short l e g ≡ false = or_false (ltb (length reply) 295) (short l e g) t in (
+        let no : short l e g ≡ false = (or_parts (ltb (length reply) 295) (short l e g) t).1 in (
           found,
           finds,
           ap₂ (λ x y. outcome (filled_with m es gs) x y) (ap (λ x. x.result) o ∙ ap of_hearing (result_same no (length line) found)) (ap (λ x. x.reply) o ∙ reply_same no found reply),

@@ -1,7 +1,8 @@
 -- The history that a run of the code made.
-use Rattle.std.specs.Prelude.{◌≡◌, ℕ, min, List, [], ◌∷◌, ◌++◌, length, take, drop, Ok, Err, Result}
+use Rattle.std.specs.Prelude.{◌≡◌, ℕ, min, List, [], ◌∷◌, ◌++◌, length, take, drop, None, Some, Option, Ok, Err, Result}
 use Rattle.converter.specs.Calls.{Call, Grant, Outcome, advance, done, hear, heard, measure}
 use Rattle.converter.specs.Told.{note_call}
+use Rattle.converter.specs.declared.Heard.{Heard}
 use Rattle.converter.specs.declared.Unheard.{Unheard}
 use Rattle.records.specs.declared.Event.{Event}
 use Rattle.records.specs.declared.PowerGap.{PowerGap}
@@ -9,8 +10,6 @@ use Rattle.refusal.specs.Told.{Answer, granted, number, refused}
 use Rattle.runs.specs.History.{Turn}
 use Rattle.runs.specs.declared.Call.{Call as Order}
 use Rattle.runs.specs.declared.Call.TheVariants.{Hear, Advance, Measure, Note}
-use Rattle.runs.specs.declared.Grant.{Grant as Granted}
-use Rattle.runs.specs.declared.Grant.TheVariants.{Done, Heard}
 use Rattle.runs.specs.declared.Slot.{Slot}
 
 -- A call of the code, with the memory for its reply as it was.
@@ -21,9 +20,9 @@ call_of (Measure readings) slot = measure readings.now
 call_of (Note note lent) slot = note_call note lent.events lent.gaps
 
 -- The result of a call.
-abbrev pub result_of : Result Granted Unheard → Answer Grant
-result_of (Ok Done) = granted done
-result_of (Ok (Heard h)) = granted (heard (record { used = h.used; reply = h.reply }))
+abbrev pub result_of : Result (Option Heard) Unheard → Answer Grant
+result_of (Ok None) = granted done
+result_of (Ok (Some h)) = granted (heard (record { used = h.used; reply = h.reply }))
 result_of (Err e) = refused (number e.refusal) e.company
 
 -- The reply memory that a call was given: the others are given none.

@@ -1,7 +1,7 @@
 // Whole runs of a converter: calls one after another, from a fresh converter on.
 #![tactic(auto)]
 
-ghost use Rattle.std.specs.Prelude.{◌≡◌, replicate, Err};
+ghost use Rattle.std.specs.Prelude.{◌≡◌, min, replicate, Err};
 ghost use Rattle.refusal.specs.declared.Company.TheVariants.{Alone};
 ghost use Rattle.refusal.specs.declared.Refusal.TheVariants.{LittleMemory};
 
@@ -17,6 +17,19 @@ pub mod running;
 pub struct Lent {
     pub events: usize,
     pub gaps: usize,
+}
+
+impl Lent {
+    // The same of memories of so many records: no more of each than there are.
+    pub(crate) fn within(self, events: usize, gaps: usize) -> Lent
+        ensures events { result.events ≡ min self.events events }
+        ensures gaps { result.gaps ≡ min self.gaps gaps }
+    {
+        Lent {
+            events: self.events.min(events),
+            gaps: self.gaps.min(gaps),
+        }
+    }
 }
 
 // A call of a converter. The reply memory that hearing is given has `room` bytes, at most 295.
@@ -39,17 +52,12 @@ pub enum Call<'a> {
     },
 }
 
-// What a call grants: hearing tells of the line and the reply, the others nothing.
-#[derive(Clone, Copy)]
-pub enum Grant {
-    Done,
-    Heard(Heard),
-}
-
-// Memory for what comes of a call: its result, and the reply memory that it is given.
-#[derive(Clone, Copy)]
+// Memory for what comes of a call: its result, and the reply memory that it is given. Of the calls that are
+// granted, hearing tells of the line and the reply, and the others tell nothing.
+// Stays: the reply memory is whole, beside a result that tells how long the reply is: the rest of it is compared too.
+#[derive(Clone, Copy, PartialEq, Eq, Debug)]
 pub struct Slot {
-    pub result: Result<Grant, Unheard>,
+    pub result: Result<Option<Heard>, Unheard>,
     pub reply: [u8; 295],
 }
 

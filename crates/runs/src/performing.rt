@@ -5,37 +5,23 @@ ghost use Rattle.converter.specs.Told.{hearing, note_call, view};
 ghost use Rattle.refusal.specs.Told.{answer};
 ghost use Rattle.runs.specs.Made.{call_of, outcome_of, rest_of, result_of};
 
-use crate::{Call, Grant, Lent, Slot};
+use crate::{Call, Lent, Slot};
 use converter::noting::Note;
 use converter::{Converter, Heard, Unheard};
 use records::{Event, PowerGap};
 use refusal::Refusal;
 use store::Store;
 
-// What hearing came to.
-fn heard(res: Result<Heard, Unheard>) -> Result<Grant, Unheard>
-    ensures { result_of result ≡ of_hearing (hearing res) }
-{
-    match res {
-        Ok(heard) => Ok(Grant::Heard(heard)),
-        Err(unheard) => Err(unheard),
-    }
-}
-
-// What another call came to.
-fn done(res: Result<(), Refusal>) -> Result<Grant, Unheard>
+// What a call came to that tells nothing where it is granted.
+fn done(res: Result<(), Refusal>) -> Result<Option<Heard>, Unheard>
     ensures { result_of result ≡ of_done (answer res) }
 {
-    match res {
-        Ok(()) => Ok(Grant::Done),
-        Err(refusal) => Err(Unheard {
-            refusal,
-            company: refusal.comes_with(),
-        }),
-    }
+    res?;
+    Ok(None)
 }
 
 // Hears a line with the memory that is lent.
+// Stays: the memories of both logs go side by side; of a struct, each contract would have to say that it keeps both loans.
 fn hear_lent<S: Store>(
     converter: &mut Converter<S>,
     line: &[u8],
@@ -46,9 +32,8 @@ fn hear_lent<S: Store>(
 ) -> Result<Heard, Unheard>
     ensures { Steps (view S.cells converter.old events.now gaps.now) (hear line.now reply.old lent.events lent.gaps) (outcome (view S.cells converter.new events.now gaps.now) (of_hearing (hearing result)) reply.new) (view S.cells converter.new events.now gaps.now) }
 {
-    let e = lent.events.min(events.len());
-    let g = lent.gaps.min(gaps.len());
-    converter.hear(line, reply, &events[0..e], &gaps[0..g])
+    let lent = lent.within(events.len(), gaps.len());
+    converter.hear(line, reply, &events[..lent.events], &gaps[..lent.gaps])
 }
 
 // Notes a record with the memory that is lent.
@@ -61,9 +46,8 @@ fn note_lent<S: Store>(
 ) -> Result<(), Refusal>
     ensures { Steps (view S.cells converter.old events.old gaps.old) (note_call note lent.events lent.gaps) (outcome (view S.cells converter.new events.new gaps.new) (of_done (answer result)) []) (view S.cells converter.new events.new gaps.new) }
 {
-    let e = lent.events.min(events.len());
-    let g = lent.gaps.min(gaps.len());
-    converter.note(note, &mut events[0..e], &mut gaps[0..g])
+    let lent = lent.within(events.len(), gaps.len());
+    converter.note(note, &mut events[..lent.events], &mut gaps[..lent.gaps])
 }
 
 // Makes one call, and tells what came of it in the slot that is given for it.
@@ -79,14 +63,10 @@ pub(crate) fn perform<S: Store>(
 {
     let mut reply = slot.reply;
     let result = match *call {
-        Call::Hear { line, room, lent } => heard(hear_lent(
-            converter,
-            line,
-            &mut reply[0..room.min(295)],
-            lent,
-            events,
-            gaps,
-        )),
+        Call::Hear { line, room, lent } => {
+            let reply = &mut reply[..room.min(295)];
+            hear_lent(converter, line, reply, lent, events, gaps).map(Some)
+        }
         Call::Advance { ticks } => done(converter.advance(ticks)),
         Call::Measure { readings } => done(converter.measure(readings)),
         Call::Note { note, lent } => done(note_lent(converter, note, lent, events, gaps)),

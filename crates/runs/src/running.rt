@@ -13,6 +13,8 @@ use records::{Event, PowerGap};
 use store::Store;
 
 // Makes the calls one after another, as many as there are slots for.
+// Stays: calls and slots are two lists: the same calls are made in several runs, each with slots of its own.
+// Stays: a zip with slots that are written tells a proof nothing of what was written, so the calls are taken by hand.
 fn run<S: Store>(
     converter: &mut Converter<S>,
     calls: &[Call<'_>],
@@ -22,14 +24,18 @@ fn run<S: Store>(
 )
     ensures ran { (history : List Turn) × MadeBy calls.now slots.old slots.new history × Ran (view S.cells converter.old events.old gaps.old) history (view S.cells converter.new events.new gaps.new) }
 {
-    let n = calls.len().min(slots.len());
-    for i in 0..n {
-        slots[i] = perform(converter, &calls[i], slots[i], events, gaps);
+    let mut later = calls.iter();
+    for slot in slots.iter_mut() {
+        let Some(call) = later.next() else {
+            break;
+        };
+        *slot = perform(converter, call, *slot, events, gaps);
     }
 }
 
 // Starts a converter over a store and makes the calls, as many as there are slots for; what came of each is
 // then in its slot.
+// Stays: volumes and memories of both logs go one by one to calls that take them so; a struct would be taken apart at once.
 pub fn live<S: Store>(
     store: S,
     volume: usize,

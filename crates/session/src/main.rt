@@ -5,25 +5,19 @@ mod refused;
 mod windows;
 
 use std::io;
+use wording::Hex;
 
 // The converter that all frames are for, and its password of kind 0.
 const ADDRESS: u16 = 0x0112;
 
 const PASSWORD: [u8; 4] = [0x31, 0x32, 0x33, 0x34];
 
-fn print_bytes(rt: &HostRuntime, bytes: &[u8]) -> io::Result<()> {
-    for byte in bytes {
-        print!(rt; " {byte:02x}")?;
-    }
-    println!(rt; "")
-}
-
 // Prints the frames of one window, in turn.
 fn tell_frames(rt: &HostRuntime, what: &str, frames: &[[u8; 18]]) -> io::Result<()> {
     println!(rt; "{what}")?;
     for frame in frames {
-        print!(rt; " ")?;
-        print_bytes(rt, frame)?;
+        let hex = Hex { bytes: frame };
+        println!(rt; " {hex}")?;
     }
     Ok(())
 }
@@ -34,15 +28,10 @@ fn tell_try(rt: &HostRuntime, command: u8, memory: &mut [u8]) -> io::Result<()> 
     print!(rt; "opened, {command:#04x} into {room} bytes: ")?;
     match refused::try_write(memory, ADDRESS, command, &[0; 9]) {
         Ok(()) => println!(rt; "written")?,
-        Err(given_up) => {
-            let number = given_up.refusal.number();
-            println!(rt; "refused {number}, then closed")?;
-            print!(rt; " ")?;
-            print_bytes(rt, &given_up.last)?;
-        }
+        Err(given_up) => println!(rt; "{given_up}")?,
     }
-    print!(rt; "  memory")?;
-    print_bytes(rt, memory)
+    let hex = Hex { bytes: memory };
+    println!(rt; "  memory{hex}")
 }
 
 fn main(rt: HostRuntime) -> anyhow::Result<()> {
@@ -55,7 +44,7 @@ fn run(rt: &HostRuntime) -> anyhow::Result<()> {
     tell_frames(
         rt,
         "opened, permitted, setpoint written",
-        &windows::write_setpoint(ADDRESS, &PASSWORD, &setpoint),
+        &station::write_setpoint(ADDRESS, &PASSWORD, &setpoint),
     )?;
     tell_frames(rt, "opened, speed set", &windows::set_speed(ADDRESS, 3))?;
     tell_frames(rt, "opened, closed", &windows::open_and_close(ADDRESS))?;

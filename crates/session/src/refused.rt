@@ -7,7 +7,9 @@ ghost use Rattle.window.specs.Frames.{closing, filled, open_writes, verdict};
 
 use crate::windows::closed;
 use refusal::Refusal;
+use std::fmt;
 use window::{Kept, Window};
+use wording::Hex;
 
 // A write that was refused, and the frame that closed the window instead.
 #[derive(Drop)]
@@ -16,7 +18,17 @@ pub struct GivenUp {
     pub last: [u8; 18],
 }
 
+// Shown with the frame on a line of its own.
+impl fmt::Display for GivenUp {
+    fn fmt<W: fmt::Write>(&self, f: &mut fmt::Formatter<W>) -> fmt::Result {
+        let number = self.refusal.number();
+        let last = Hex { bytes: &self.last };
+        write!(f, "refused {number}, then closed\n {last}")
+    }
+}
+
 // Tries a command on an open window, with the memory given for its frame.
+// Stays: the parts of one frame, as `write` takes them; a struct of them would be made only to be taken apart.
 pub fn try_write(
     memory: &mut [u8],
     address: u16,
@@ -28,14 +40,9 @@ pub fn try_write(
     ensures ended { IfErr result (λ up. up.last ≡ closing address) }
 {
     let mut first = [0u8; 18];
-    let Ok(window) = Window::open(&mut first, address) else {
-        unreachable();
-    };
-    match window.write(memory, command, parameters) {
-        Ok(()) => Ok(()),
-        Err(Kept { window, refusal }) => {
-            let last = closed(window);
-            Err(GivenUp { refusal, last })
-        }
-    }
+    let window = Window::open(&mut first, address).unwrap();
+    window.write(memory, command, parameters).map_err(|Kept { window, refusal }| GivenUp {
+        refusal,
+        last: closed(window),
+    })
 }

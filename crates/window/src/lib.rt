@@ -11,11 +11,13 @@ use refusal::Refusal;
 use request_frame::write_request;
 
 // The states of a window.
+// Stays: a permitted write on an open window must be a need that nothing proves: a const parameter, which is no enum.
 pub const OPEN: bool = false;
 
 pub const PERMITTED: bool = true;
 
 // The commands that open, permit and close, and the key that opens.
+// Stays: `write` takes any byte for its command and may refuse it; an enum of commands would ask more of callers.
 const PREPARE: u8 = 0x01;
 
 const PERMIT: u8 = 0x06;
@@ -30,12 +32,14 @@ pub struct Window<const STATE: bool> {
 }
 
 // A refusal, and the window that it keeps.
+// Stays: `Keeps`, a clause of each call, ties this window to the one given; no invariant of `Kept` alone can say it.
 pub struct Kept<const STATE: bool> {
     pub window: Window<STATE>,
     pub refusal: Refusal,
 }
 
 // Whether an open window writes `command`.
+// Stays: two lists that the contracts name by the window's state; one function of both would take a flag.
 fn open_writes(command: u8) -> bool
     ensures { result ≡ open_writes command }
 {
@@ -49,17 +53,9 @@ fn permitted_writes(command: u8) -> bool
     matches!(command, 0x12 | 0x2e)
 }
 
-// The parameters that permit writes of kind 0.
-fn kind_0(password: &[u8; 4]) -> [u8; 9]
-    ensures { result ≡ password.now ++ replicate 5 0 }
-{
-    let mut parameters = [0u8; 9];
-    parameters[0..4].copy_from_slice(password);
-    parameters
-}
-
 impl Window<OPEN> {
     // Opens a window on the converter with `address`.
+    #[tactic(auto, using(crate::proofs::Turns::served))]
     pub fn open(out: &mut [u8], address: u16) -> Result<Window<OPEN>, Refusal>
         ensures told { answer result ≡ verdict true out.old (record { address = address }) }
         ensures written { out.new ≡ filled true out.old (preparing address) }
@@ -90,20 +86,23 @@ impl<const STATE: bool> Window<STATE> {
         ensures keeps { Keeps result self.entry }
     {
         let address = self.address;
-        match self.spend(out, true, PERMIT, &kind_0(password)) {
-            Ok(()) => Ok(Window { address }),
-            Err(kept) => Err(kept),
-        }
+        let [a, b, c, d] = *password;
+        self.spend(out, PERMIT, &[a, b, c, d, 0, 0, 0, 0, 0])?;
+        Ok(Window { address })
     }
 
     // Ends an open window by the write that it is for.
+    // Stays: one call for both states would refuse a permitted write on an open window with 5, and not by the check.
     pub fn write(self, out: &mut [u8], command: u8, parameters: &[u8; 9]) -> Result<(), Kept<STATE>>
         requires { STATE ≡ false }
         ensures told { told result ≡ verdict (open_writes command) out.old tt }
         ensures written { out.new ≡ filled (open_writes command) out.old (request self.entry.address command parameters.now) }
         ensures keeps { Keeps result self.entry }
     {
-        self.spend(out, open_writes(command), command, parameters)
+        if !open_writes(command) {
+            return Err(self.kept(Refusal::UnknownCommand));
+        }
+        self.spend(out, command, parameters)
     }
 
     // Ends a permitted window by the write that it is for.
@@ -118,7 +117,10 @@ impl<const STATE: bool> Window<STATE> {
         ensures written { out.new ≡ filled (permitted_writes command) out.old (request self.entry.address command parameters.now) }
         ensures keeps { Keeps result self.entry }
     {
-        self.spend(out, permitted_writes(command), command, parameters)
+        if !permitted_writes(command) {
+            return Err(self.kept(Refusal::UnknownCommand));
+        }
+        self.spend(out, command, parameters)
     }
 
     // Ends a window that writes nothing.
@@ -127,36 +129,31 @@ impl<const STATE: bool> Window<STATE> {
         ensures written { out.new ≡ filled true out.old (closing self.entry.address) }
         ensures keeps { Keeps result self.entry }
     {
-        self.spend(out, true, READ_ADDRESS, &[0; 9])
+        self.spend(out, READ_ADDRESS, &[0; 9])
     }
 
-    // Spends the window on a frame with `command`, where that is one of its own.
-    fn spend(
-        self,
-        out: &mut [u8],
-        lawful: bool,
-        command: u8,
-        parameters: &[u8; 9],
-    ) -> Result<(), Kept<STATE>>
-        ensures told { told result ≡ verdict lawful out.old tt }
-        ensures written { out.new ≡ filled lawful out.old (request self.entry.address command parameters.now) }
+    // The window, kept by a refusal.
+    fn kept(self, refusal: Refusal) -> Kept<STATE>
+        ensures { result ≡ (record { window = self.entry; refusal = refusal }) }
+    {
+        Kept {
+            window: self,
+            refusal,
+        }
+    }
+
+    // Spends the window on a frame with `command`.
+    // Stays: command and parameters come from the caller; a struct of both would be made only to be taken apart.
+    fn spend(self, out: &mut [u8], command: u8, parameters: &[u8; 9]) -> Result<(), Kept<STATE>>
+        ensures told { told result ≡ verdict true out.old tt }
+        ensures written { out.new ≡ filled true out.old (request self.entry.address command parameters.now) }
         ensures keeps { Keeps result self.entry }
     {
-        if !lawful {
-            return Err(Kept {
-                window: self,
-                refusal: Refusal::UnknownCommand,
-            });
+        // Stays: the check covers no `map_err` here, whose closure makes a window of the state that is a parameter.
+        if let Err(refusal) = write_request(out, self.address, command, parameters) {
+            return Err(self.kept(refusal));
         }
-        match write_request(out, self.address, command, parameters) {
-            Ok(()) => {
-                let Window { address: _ } = self;
-                Ok(())
-            }
-            Err(refusal) => Err(Kept {
-                window: self,
-                refusal,
-            }),
-        }
+        let Window { address: _ } = self;
+        Ok(())
     }
 }

@@ -1,28 +1,21 @@
 // What programs print for people: refusals in words, bytes as pairs of digits.
 #![tactic(auto)]
 
+ghost use Rattle.std.specs.Prelude.{Some};
+ghost use Rattle.wording.specs.Pairs.{pairs};
+
 use refusal::Refusal;
 use std::fmt;
 
-// What stood in the way.
-pub fn words(refusal: Refusal) -> &'static str {
-    match refusal {
-        Refusal::LittleMemory => "memory not of the length asked",
-        Refusal::NoRequest => "no valid request in the line",
-        Refusal::ForeignAddress => "another address",
-        Refusal::NotForBroadcast => "not for broadcast",
-        Refusal::UnknownCommand => "unknown command",
-        Refusal::NotPrepared => "not prepared",
-        Refusal::NotPermitted => "not permitted",
-        Refusal::Parameter => "parameter out of its range",
-        Refusal::LogIndex => "no such record",
-        Refusal::WrongPassword => "wrong password",
-        Refusal::PastLastYear => "past the end of 2099",
-        Refusal::EventReason => "event reason out of its ranges",
-        Refusal::NoVolume => "a log of volume 0",
-        Refusal::NoReply => "not the shape of a reply",
-        Refusal::CheckWord(_) => "wrong check word",
-        Refusal::NoRoom => "no room",
+// A refusal as programs tell it: its number, and in words what stood in the way.
+#[derive(Clone, Copy)]
+pub struct Refused(pub Refusal);
+
+impl fmt::Display for Refused {
+    fn fmt<W: fmt::Write>(&self, f: &mut fmt::Formatter<W>) -> fmt::Result {
+        let Refused(refusal) = *self;
+        let number = refusal.number();
+        write!(f, "refused {number} ({refusal})")
     }
 }
 
@@ -33,8 +26,11 @@ pub struct Hex<'a> {
 }
 
 impl fmt::Display for Hex<'_> {
+    ghost output = { λ hex. Some (pairs hex.bytes.now) };
+
     fn fmt<W: fmt::Write>(&self, f: &mut fmt::Formatter<W>) -> fmt::Result {
         for byte in self.bytes {
+            let byte = *byte;
             write!(f, " {byte:02x}")?;
         }
         Ok(())

@@ -6,64 +6,73 @@ use ring_log::reading::record_at;
 use ring_log::ring::note_gap;
 use std::io;
 
-// The records that a log holds, oldest first.
-fn tell_held(rt: &HostRuntime, position: &Position, memory: &[PowerGap]) -> io::Result<()> {
-    for index in 0..position.held() {
-        if let Ok(gap) = record_at(position, memory, index) {
-            let off = gap.off;
-            let on = gap.on;
-            println!(rt; "    {index}: off at {off}, on at {on}")?;
-        }
-    }
-    Ok(())
+// A log, and the memory for its records.
+#[derive(Drop)]
+struct GapLog {
+    position: Position,
+    memory: [PowerGap; 3],
 }
 
-fn tell_answer(rt: &HostRuntime, what: &str, answer: Result<(), Refusal>) -> io::Result<()> {
+impl GapLog {
+    fn of_volume(volume: usize) -> GapLog {
+        GapLog {
+            position: Position::fresh(volume),
+            memory: [PowerGap::default(); 3],
+        }
+    }
+
+    fn note(&mut self, off: u32, on: u32) -> Result<(), Refusal> {
+        note_gap(&mut self.position, &mut self.memory, off, on)
+    }
+
+    // Prints the records that it holds, oldest first.
+    fn tell_held(&self, rt: &HostRuntime) -> io::Result<()> {
+        // Stays: a log gives a record by its index, and the line shows that index.
+        for index in 0..self.position.held() {
+            if let Ok(PowerGap { off, on }) = record_at(&self.position, &self.memory, index) {
+                println!(rt; "    {index}: off at {off}, on at {on}")?;
+            }
+        }
+        Ok(())
+    }
+
+    fn tell_state(&self, rt: &HostRuntime) -> io::Result<()> {
+        let held = self.position.held();
+        let volume = self.position.volume();
+        let count = self.position.record_count();
+        let most = self.position.record_max();
+        println!(rt; "  holds {held} of {volume}, RecordCount {count}, RecordMax {most:#06x}")
+    }
+}
+
+fn tell_answer(rt: &HostRuntime, answer: Result<(), Refusal>) -> io::Result<()> {
+    // Stays: the line shows the refusal's number alone, and what prints refusals adds words to it.
     match answer {
-        Ok(()) => println!(rt; "{what}: granted"),
-        Err(refusal) => {
-            let number = refusal.number();
-            println!(rt; "{what}: refused {number}")
-        }
+        Ok(()) => println!(rt; "gap: granted"),
+        Err(refusal) => println!(rt; "gap: refused {}", refusal.number()),
     }
-}
-
-fn tell_state(rt: &HostRuntime, position: &Position) -> io::Result<()> {
-    let held = position.held();
-    let volume = position.volume();
-    let count = position.record_count();
-    let most = position.record_max();
-    println!(rt; "  holds {held} of {volume}, RecordCount {count}, RecordMax {most:#06x}")
 }
 
 // Five gaps, one an hour, and what the log holds after each.
-fn tell_hours(
-    rt: &HostRuntime,
-    position: &mut Position,
-    memory: &mut [PowerGap],
-) -> io::Result<()> {
+fn tell_hours(rt: &HostRuntime, log: &mut GapLog) -> io::Result<()> {
+    // Stays: the hour is what is noted, and not a place in a list.
     for hour in 1..6 {
         let off = hour * 3600;
-        tell_answer(rt, "gap", note_gap(position, memory, off, off + 60))?;
-        tell_state(rt, position)?;
-        tell_held(rt, position, memory)?;
+        tell_answer(rt, log.note(off, off + 60))?;
+        log.tell_state(rt)?;
+        log.tell_held(rt)?;
     }
     Ok(())
 }
 
 // Five gaps into a log of volume 3, and one into a log of volume 0.
 pub fn tell_all(rt: &HostRuntime) -> io::Result<()> {
-    let mut memory = [PowerGap { off: 0, on: 0 }; 3];
-    let mut position = Position::fresh(3);
     println!(rt; "a log of volume 3")?;
-    tell_hours(rt, &mut position, &mut memory)?;
-    position.clear([0, 1, 1, 6, 0, 0, 0, 6, 0]);
+    let mut log = GapLog::of_volume(3);
+    tell_hours(rt, &mut log)?;
+    log.position.clear([0, 1, 1, 6, 0, 0, 0, 6, 0]);
     println!(rt; "cleared")?;
-    tell_state(rt, &position)?;
+    log.tell_state(rt)?;
     println!(rt; "a log of volume 0")?;
-    tell_answer(
-        rt,
-        "gap",
-        note_gap(&mut Position::fresh(0), &mut memory, 1, 2),
-    )
+    tell_answer(rt, GapLog::of_volume(0).note(1, 2))
 }

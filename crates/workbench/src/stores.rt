@@ -3,9 +3,11 @@ use std::io;
 use store::appending::Appending;
 use store::flat::Flat;
 use store::{Filled, Store};
+use wording::Hex;
 
 // Writes far past the strip's 64 entries, many to the same cells.
 fn fill<S: Store>(store: &mut S) {
+    // Stays: the numbers are counted because they are the cells and the bytes that are written.
     for i in 0..200u8 {
         store.write(i % 7, i);
         store.write(i, 255 - i);
@@ -14,13 +16,9 @@ fn fill<S: Store>(store: &mut S) {
 
 // How many of the 256 cells hold the same byte in both.
 fn alike<A: Store, B: Store>(a: &A, b: &B) -> usize {
-    let mut count: usize = 0;
-    for cell in 0..=255u8 {
-        if a.read(cell) == b.read(cell) {
-            count = count.saturating_add(1);
-        }
-    }
-    count
+    (0..=255u8)
+        .filter(|&cell| a.read(cell) == b.read(cell))
+        .count()
 }
 
 pub fn tell_all(rt: &HostRuntime) -> io::Result<()> {
@@ -30,10 +28,7 @@ pub fn tell_all(rt: &HostRuntime) -> io::Result<()> {
     fill(&mut appending);
     let same = alike(&flat, &appending);
     println!(rt; "400 writes to a flat and to an appending store: {same} of 256 cells alike")?;
-    print!(rt; "cells 0 to 7, 199, 200:")?;
-    for cell in [0, 1, 2, 3, 4, 5, 6, 7, 199, 200] {
-        let byte = appending.read(cell);
-        print!(rt; " {byte:02x}")?;
-    }
-    println!(rt; "")
+    let bytes = [0, 1, 2, 3, 4, 5, 6, 7, 199, 200].map(|cell| appending.read(cell));
+    let shown = Hex { bytes: &bytes };
+    println!(rt; "cells 0 to 7, 199, 200:{shown}")
 }

@@ -1,7 +1,7 @@
+use Rattle.std.proofs.Common.{arith}
+use Rattle.std.proofs.lemmas.Grind.{common_steps}
 use Rattle.orders.proofs.numbers.number.Goals as goal
-use Rattle.orders.proofs.Digits.{behind_0x}
+use Rattle.orders.proofs.Digits.{nothing_behind}
 
-pub returns-then-is_hexadecimal : goal.returns-then-is_hexadecimal
-returns-then-is_hexadecimal c =
-    behind_0x c.args.word.now _ c.args.greatest c.value_of.result c.if-is_empty.ensures c.if-is_hexadecimal.ensures
-    c.split_at.ensures.back c.value_of.ensures
+pub returns-then-is_empty : goal.returns-then-is_empty
+returns-then-is_empty c = grind (arith, common_steps, nothing_behind)

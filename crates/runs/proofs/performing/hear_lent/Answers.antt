@@ -1,11 +1,12 @@
-use Rattle.std.proofs.Common.{ℕ, ◌-◌, List, length, take, drop, ap, ◌∙◌, subst₂}
+use Rattle.std.proofs.Common.{ℕ, List, length, take, ap, ◌∙◌, subst₂}
 use Rattle.converter.specs.Calls.{Steps, hear, of_hearing, outcome}
 use Rattle.converter.specs.Told.{hearing, view}
 use Rattle.device.specs.Life.{position_at}
 use Rattle.records.specs.declared.Event.{Event}
 use Rattle.records.specs.declared.PowerGap.{PowerGap}
-use Rattle.runs.proofs.Widened.{hear_whole, lent_part}
+use Rattle.runs.proofs.Widened.{hear_whole}
 use Rattle.runs.proofs.performing.hear_lent.Goals as goal
+use Rattle.std.proofs.lemmas.List.{take_min}
 
 pub returns : goal.returns
 returns g c =
@@ -20,8 +21,8 @@ returns g c =
     let after = c.hear.new.self in
     let r = of_hearing (hearing c.hear.result) in
     let ps = before.inner.positions in
-    let events = ap (λ (n : ℕ). take (n - 0) (drop 0 es)) c.min-e.ensures ∙ lent_part e es in
-    let gaps = ap (λ (n : ℕ). take (n - 0) (drop 0 gs)) c.min-g.ensures ∙ lent_part k gs in
+    let events = ap (λ (n : ℕ). take n es) c.within-lent.ensures.events ∙ take_min e es in
+    let gaps = ap (λ (n : ℕ). take n gs) c.within-lent.ensures.gaps ∙ take_min k gs in
     let step =
     subst₂ (λ (x : List Event) (y : List PowerGap). Steps (view cells before x y) (hear line reply (length x) (length y)) (outcome (view cells after x y) r c.hear.new.reply) (view cells after x y))
     events gaps c.hear.ensures in
