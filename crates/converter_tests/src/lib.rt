@@ -4,6 +4,7 @@
 #[cfg(test)]
 mod tests {
     use converter::Heard;
+    use converter::noting::Note;
     use records::{Event, PowerGap};
     use refusal::Company;
     use reply_frame::read_reply;
@@ -198,6 +199,26 @@ mod tests {
         assert_eq!(rt; reply.length, 29);
         assert_eq!(rt; &data[0..24], [0x66; 24].as_slice());
         assert_eq!(rt; &data[24..29], [0xaa; 5].as_slice());
+        Ok(())
+    }
+
+    // A power gap that was noted is what the log of power gaps gives: eight bytes, low byte first, and their CSum,
+    // 255 - 25.
+    #[test]
+    fn noted_gap(rt: HostRuntime) -> Result<(), Fail> {
+        let note = Note::Gap(PowerGap {
+            off: 0x0102_0304,
+            on: 0x0102_0408,
+        });
+        let frame = frame_for(0x0001, 0x1f, &[0x0e, 0, 0, 1, 0, 0, 0, 0, 0]);
+        let mut slots = [Slot::blank(); 2];
+        run(&[Call::Note { note, lent: LENT }, hear(&frame)], &mut slots);
+        let [noted, heard] = slots;
+        assert_eq!(rt; answer_in(&noted), Ok(None));
+        assert_eq!(rt; answer_in(&heard), granted(18, 18));
+        let mut data = [0u8; 10];
+        read_reply(&heard.reply[0..18], &mut data)?;
+        assert_eq!(rt; data, [4, 3, 2, 1, 8, 4, 2, 1, 230, 0]);
         Ok(())
     }
 }

@@ -1,11 +1,11 @@
--- The frames of a window, each heard alone: what stands after those granted, and that the next is refused neither
+-- The frames of a window, each heard alone or first in its line: what stands after those granted, and that the next is refused neither
 -- with 6 nor with 7.
 use Rattle.std.proofs.Common.{◌≡◌, ℕ, Bool, true, false, cond, not, List, [], ◌∷◌, ◌++◌, length, get_or, take, drop, Some, None, Option, sym, refl, ap, ◌∙◌, subst, ap₂, arith, length-drop, length-take}
 use Rattle.access.specs.Decision.{afterwards, index_past, own, right, stepped, kind_asked, unpermitted, unprepared, verdict}
 use Rattle.access.specs.declared.Access.{Access}
 use Rattle.access.specs.declared.Destination.{Destination}
 use Rattle.access.specs.declared.Destination.TheVariants.{Own, Broadcast, Foreign}
-use Rattle.converter.specs.Calls.{Call, Hears, Outcome, Steps, no_room, of_hearing}
+use Rattle.converter.specs.Calls.{Call, Hears, Outcome, Steps, hear, no_room, of_hearing}
 use Rattle.converter.specs.Hearing.{Finds, Found, carried, destination, in_row, judged, judged_for, life_after, result_by, result_to, ruled, standing, standing_for}
 use Rattle.device.specs.Life.{Life}
 use Rattle.device.specs.Rows.{held_for}
@@ -18,8 +18,10 @@ use Rattle.request_frame.specs.Requests.{request, window}
 use Rattle.runs.proofs.Asked.{granted_asked, is_grant}
 use Rattle.runs.specs.History.{Ran, Turn}
 use Rattle.runs.specs.Records.{address_of}
-use Rattle.runs.specs.Windows.{HeardInTurn, HearsAlone, Windows, is_granted}
+use Rattle.runs.proofs.Single.{finds_unique}
+use Rattle.runs.specs.Windows.{HeardBy, HearsAlone, HearsFirst, Windows, WindowsBy, WindowsInLines, is_granted}
 use Rattle.std.proofs.lemmas.List.{take_all}
+use Rattle.std.proofs.lemmas.Option.{same_Some}
 use Rattle.std.proofs.lemmas.Bool.{false≢true}
 use Rattle.window.proofs.Turns.{served}
 use Rattle.window.specs.Served.{Turn as WindowTurn, after_all}
@@ -88,27 +90,59 @@ asked_if : (address command : ℕ) (ps : List ℕ) (a : Asked) → length ps ≡
 asked_if address command ps a nine asks found finds f is =
     asked_found address command ps a nine asks f (subst (Finds (request address command ps)) is finds)
 
+-- whatever is found in a line asks that
+abbrev AsksIn : List ℕ → Asked → Type 0
+AsksIn line a = (found : Option Found) → Finds line found → (f : Found) → found ≡ Some f → asked f.command f.parameters ≡ Some a
+
 -- the same whether memory is short or not: a call with short memory grants nothing
-stood_hearing : (is_short : Bool) (l m : Life) (address command : ℕ) (ps memory : List ℕ) (a : Asked) (o : Outcome) → length ps ≡ 9 →
-    asked command ps ≡ Some a → Hears is_short l (request address command ps) memory o m → is_granted o.result ≡ true →
-    m.access ≡ stepped l.access (command_of a) (kind_asked a)
-stood_hearing true l m address command ps memory a o nine asks (came, is) g =
+stood_hearing : (is_short : Bool) (l m : Life) (line memory : List ℕ) (a : Asked) (o : Outcome) → AsksIn line a →
+    Hears is_short l line memory o m → is_granted o.result ≡ true → m.access ≡ stepped l.access (command_of a) (kind_asked a)
+stood_hearing true l m line memory a o asks (came, is) g =
     let z : false ≡ true = sym (ap (λ (x : Outcome). is_granted x.result) came) ∙ g in absurd (false≢true z)
-stood_hearing false l m address command ps memory a o nine asks (found, finds, came, is) g =
+stood_hearing false l m line memory a o asks (found, finds, came, is) g =
     ap (λ (x : Life). x.access) is
-    ∙ stood_after l (length (request address command ps)) found a (asked_if address command ps a nine asks found finds)
-    (sym (ap (λ (x : Outcome). is_granted x.result) came) ∙ g)
+    ∙ stood_after l (length line) found a (asks found finds) (sym (ap (λ (x : Outcome). is_granted x.result) came) ∙ g)
+
+-- a call that hears a line, and in it what is asked
+record Heard (call : Call) (a : Asked) : Type 0 where
+  line : List ℕ
+  memory : List ℕ
+  events : ℕ
+  gaps : ℕ
+  asks : AsksIn line a
+  is : call ≡ hear line memory events gaps
+
+alone_heard : (address : ℕ) (call : Call) (a : Asked) → HearsAlone address call a → Heard call a
+alone_heard address call a h = record {
+  line = request address h.command h.parameters;
+  memory = h.memory;
+  events = h.events;
+  gaps = h.gaps;
+  asks = asked_if address h.command h.parameters a h.nine h.asks;
+  is = h.is;
+}
+
+first_heard : (address : ℕ) (call : Call) (a : Asked) → HearsFirst address call a → Heard call a
+first_heard address call a h = record {
+  line = h.line;
+  memory = h.memory;
+  events = h.events;
+  gaps = h.gaps;
+  asks = λ found finds f is.
+      let same : Some h.found ≡ Some f = finds_unique h.line (Some h.found) (Some f) h.finds (subst (Finds h.line) is finds) in
+      subst (λ (x : Found). asked x.command x.parameters ≡ Some a) (same_Some h.found f same) h.asks;
+  is = h.is;
+}
 
 -- a call is the hearing that it is said to be
-heard_step : (l m : Life) (address : ℕ) (call : Call) (a : Asked) (o : Outcome) (h : HearsAlone address call a) → Steps l call o m →
-    Hears (no_room l h.memory h.events h.gaps) l (request address h.command h.parameters) h.memory o m
-heard_step l m address call a o h steps = subst (λ (c : Call). Steps l c o m) h.is steps
+heard_step : (l m : Life) (call : Call) (a : Asked) (o : Outcome) (h : Heard call a) → Steps l call o m →
+    Hears (no_room l h.memory h.events h.gaps) l h.line h.memory o m
+heard_step l m call a o h steps = subst (λ (c : Call). Steps l c o m) h.is steps
 
 -- one granted frame of a window moves what stands as its command does
-moved : (l m : Life) (address : ℕ) (call : Call) (a : Asked) (o : Outcome) → HearsAlone address call a → Steps l call o m →
-    is_granted o.result ≡ true → m.access ≡ stepped l.access (command_of a) (kind_asked a)
-moved l m address call a o h steps g =
-    stood_hearing _ l m address h.command h.parameters h.memory a o h.nine h.asks (heard_step l m address call a o h steps) g
+moved : (l m : Life) (call : Call) (a : Asked) (o : Outcome) → Heard call a → Steps l call o m → is_granted o.result ≡ true →
+    m.access ≡ stepped l.access (command_of a) (kind_asked a)
+moved l m call a o h steps g = stood_hearing _ l m h.line h.memory a o h.asks (heard_step l m call a o h steps) g
 
 -- one request more at the end moves what stood after those before
 after_last : (access : Access) (before : List Asked) (a : Asked) →
@@ -117,12 +151,13 @@ after_last access [] a = refl
 after_last access (b ∷ later) a = after_last (afterwards {T = Unit {0}} (granted tt) access b) later a
 
 -- after granted frames one right behind another there stands what they left, one after the other
-stands : (l m : Life) (address : ℕ) (history : List Turn) (asks : List Asked) → Ran l history m → HeardInTurn address history asks →
+stands : (H : ℕ → Call → Asked → Type 0) → ((address : ℕ) (call : Call) (a : Asked) → H address call a → Heard call a) →
+    (l m : Life) (address : ℕ) (history : List Turn) (asks : List Asked) → Ran l history m → HeardBy H address history asks →
     m.access ≡ after_all l.access asks
-stands l m address [] asks ran heard = ap (λ (x : Life). x.access) ran ∙ sym (ap (after_all l.access) heard)
-stands l m address (t ∷ earlier) asks (k, ran, steps) (before, a, heard, alone, g, all) =
-    let stood = stands l k address earlier before ran heard in
-    moved k m address t.call a t.came alone steps g
+stands H hears l m address [] asks ran heard = ap (λ (x : Life). x.access) ran ∙ sym (ap (after_all l.access) heard)
+stands H hears l m address (t ∷ earlier) asks (k, ran, steps) (before, a, heard, one, g, all) =
+    let stood = stands H hears l k address earlier before ran heard in
+    moved k m t.call a t.came (hears address t.call a one) steps g
     ∙ (ap (λ (x : Access). stepped x (command_of a) (kind_asked a)) stood
     ∙ (sym (after_last l.access before a) ∙ sym (ap (after_all l.access) all)))
 
@@ -195,21 +230,24 @@ found_number l line (Some f) next asks other =
     subst Other (result_number l line f (judged l f)) (judged_number l (destination l f) f.command f.parameters row)
 
 -- the same whether memory is short or not: short memory is refused with 1
-hearing_number : (is_short : Bool) (l m : Life) (address command : ℕ) (ps memory : List ℕ) (next : Asked) (o : Outcome) → length ps ≡ 9 →
-    asked command ps ≡ Some next → Other (number_of (in_row l (Some next))) → Hears is_short l (request address command ps) memory o m →
-    Other (number_of o.result)
-hearing_number true l m address command ps memory next o nine asks other (came, is) =
+hearing_number : (is_short : Bool) (l m : Life) (line memory : List ℕ) (next : Asked) (o : Outcome) → AsksIn line next →
+    Other (number_of (in_row l (Some next))) → Hears is_short l line memory o m → Other (number_of o.result)
+hearing_number true l m line memory next o asks other (came, is) =
     subst (λ (x : Outcome). Other (number_of x.result)) (sym came) ((λ e. omega (arith, e)), (λ e. omega (arith, e)))
-hearing_number false l m address command ps memory next o nine asks other (found, finds, came, is) =
-    subst (λ (x : Outcome). Other (number_of x.result)) (sym came)
-    (found_number l (length (request address command ps)) found next (asked_if address command ps next nine asks found finds) other)
+hearing_number false l m line memory next o asks other (found, finds, came, is) =
+    subst (λ (x : Outcome). Other (number_of x.result)) (sym came) (found_number l (length line) found next (asks found finds) other)
 
--- the next frame of a window is refused neither with 6 nor with 7
-pub windows : Windows
-windows l m n history asks next call o ran heard turn alone steps company =
-    let is = stands l m (address_of l) history asks ran heard in
+-- the next frame of a window is refused neither with 6 nor with 7, in whichever way all are heard
+served_by : (H : ℕ → Call → Asked → Type 0) → ((address : ℕ) (call : Call) (a : Asked) → H address call a → Heard call a) → WindowsBy H
+served_by H hears l m n history asks next call o ran heard turn one steps company =
+    let is = stands H hears l m (address_of l) history asks ran heard in
     let row = row_number m l.access asks next is turn in
-    let other =
-    hearing_number _ m n (address_of l) alone.command alone.parameters alone.memory next o alone.nine alone.asks row
-    (heard_step m n (address_of l) call next o alone steps) in
+    let h = hears (address_of l) call next one in
+    let other = hearing_number _ m n h.line h.memory next o h.asks row (heard_step m n call next o h steps) in
     ((λ e. other.0 (ap number_of e)), (λ e. other.1 (ap number_of e)))
+
+pub windows : Windows
+windows = served_by HearsAlone alone_heard
+
+pub windows_in_lines : WindowsInLines
+windows_in_lines = served_by HearsFirst first_heard

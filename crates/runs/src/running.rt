@@ -4,7 +4,7 @@ ghost use Rattle.converter.specs.Told.{view};
 ghost use Rattle.runs.specs.History.{Ran, Turn};
 ghost use Rattle.runs.specs.Made.{MadeBy};
 ghost use Rattle.runs.specs.Promises.{Lives, PasswordsHide, RecordsShow, SettingsFollow, start_of};
-ghost use Rattle.runs.specs.Windows.{Windows};
+ghost use Rattle.runs.specs.Windows.{Windows, WindowsInLines};
 
 use crate::performing::perform;
 use crate::{Call, Slot};
@@ -50,6 +50,7 @@ pub fn live<S: Store>(
     ensures passwords { PasswordsHide (start_of (S.cells store) volume gap_volume events.old gaps.old) (view S.cells result events.new gaps.new) }
     ensures records { RecordsShow (start_of (S.cells store) volume gap_volume events.old gaps.old) (view S.cells result events.new gaps.new) }
     ensures windows { Windows }
+    ensures windows_in_lines { WindowsInLines }
 {
     let mut converter = Converter::start(store, volume, gap_volume);
     run(&mut converter, calls, slots, events, gaps);

@@ -2,7 +2,7 @@ use Rattle.std.proofs.Common.{List, subst}
 use Rattle.converter.specs.Told.{view}
 use Rattle.device.specs.Life.{Life}
 use Rattle.runs.proofs.Held.{passwords_of, records_of, settings_of}
-use Rattle.runs.proofs.Served.{windows}
+use Rattle.runs.proofs.Served.{windows, windows_in_lines}
 use Rattle.runs.proofs.running.live.Goals as goal
 use Rattle.runs.specs.History.{Ran, Turn}
 use Rattle.runs.specs.Made.{MadeBy}
@@ -19,4 +19,5 @@ returns g c =
       passwords = λ h lives. passwords_of s h l lives;
       records = λ h lives. records_of s h l lives;
       windows = windows;
+      windows_in_lines = windows_in_lines;
     }
