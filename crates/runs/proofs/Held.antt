@@ -24,6 +24,7 @@ module _ (s : Start) (history : List Turn) (l : Life) (lives : Lives s history l
   pub records_of : RecordsOf s history l
   records_of = record {
     logs = logs s.cells s.volume s.volume_of_gaps s.events s.gaps history l lives;
+    beside = λ r other m run. logs r.cells r.volume r.volume_of_gaps r.events r.gaps other m run;
     heard = heard_so;
     equal = λ r other m run a b.
         records s.cells r.cells s.volume s.volume_of_gaps r.volume r.volume_of_gaps s.events r.events s.gaps r.gaps history other l m lives run a b;

@@ -42,10 +42,11 @@ PasswordsOf s history l =
     (r : Start) (before other : List Turn) (n o : Life) → Lives r before n → Ran n other o → Alike m n → calls later ≡ calls other →
     Tells m.cells n.cells later other
 
--- Records: what the logs hold and what requests for records are answered, that every converter hears them so,
--- and that two converters answer them alike exactly when their logs hold equal records.
+-- Records: what the logs hold and what requests for records are answered, here and beside every other run, that
+-- every converter hears them so, and that two converters answer them alike exactly when their logs hold equal records.
 pub record RecordsOf (s : Start) (history : List Turn) (l : Life) : Type 0 where
   pub logs : LogsOf s.volume s.volume_of_gaps history l
+  pub beside : (r : Start) (other : List Turn) (m : Life) → Lives r other m → LogsOf r.volume r.volume_of_gaps other m
   pub heard : (m : Life) → HeardSo m
   pub equal :
       (r : Start) (other : List Turn) (m : Life) → Lives r other m → (address_of l ≢ 0x00FF) → (address_of m ≢ 0x00FF) →
