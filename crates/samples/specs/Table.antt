@@ -18,6 +18,11 @@ at seconds = record { seconds = seconds; ticks = 0; season = Winter }
 abbrev pub last_date : DateTime
 last_date = date_in (99 ∷ 12 ∷ 31 ∷ 23 ∷ 59 ∷ 59 ∷ [])
 
+-- A mask of readings worked out by hand.
+pub record Masks : Type 0 where
+  -- mask 0x000440 gives 29 data bytes
+  pub mask : (readings : List ℕ) → length readings ≡ 175 → length (masked 0x000440 readings) ≡ 29
+
 pub record Table : Type 0 where
   -- 0 s is 2000-01-01 00:00:00, weekday 6
   pub start : nine_bytes (at 0) ≡ 0 ∷ 1 ∷ 1 ∷ 0 ∷ 0 ∷ 0 ∷ 0 ∷ 6 ∷ 0 ∷ []
@@ -44,8 +49,5 @@ pub record Table : Type 0 where
   pub record_count : told_count 3 4 ≡ 1
   pub record_max : told_max 3 4 ≡ 0x8003
   pub oldest_held : (a b c d : PowerGap) → slice_index_or (newest 3 (a ∷ b ∷ c ∷ d ∷ [])) 0 a ≡ b
-
--- A mask of readings worked out by hand.
-pub record Masks : Type 0 where
-  -- mask 0x000440 gives 29 data bytes
-  pub mask : (readings : List ℕ) → length readings ≡ 175 → length (masked 0x000440 readings) ≡ 29
+  -- what a mask gives
+  pub masks : Masks

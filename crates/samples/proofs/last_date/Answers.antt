@@ -5,6 +5,9 @@ use Rattle.reply_frame.specs.Replies.{data_len, on_line}
 use Rattle.samples.specs.Table.{Masks, Table, last_date}
 use Rattle.samples.proofs.last_date.Goals as goal
 
+masks : Masks
+masks = record { mask = λ readings all. simp (length-append, length-take, length-drop) (omega arith) }
+
 table : Table
 unfolding before date_of is_lawful month_days reached year_days
 table =
@@ -24,10 +27,8 @@ table =
       record_count = refl;
       record_max = refl;
       oldest_held = λ a b c d. refl;
+      masks = masks;
     }
-
-masks : Masks
-masks = record { mask = λ readings all. simp (length-append, length-take, length-drop) (omega arith) }
 
 last : date_of 3155759999 ≡ last_date
 unfolding before date_of month_days reached year_days
