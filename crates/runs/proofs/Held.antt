@@ -12,6 +12,7 @@ module _ (s : Start) (history : List Turn) (l : Life) (lives : Lives s history l
   pub settings_of : SettingsOf s history l
   settings_of = record {
     each = cells_are (fresh_of s) l history lives;
+    since = λ m n between run. cells_are m n between run;
     equal = λ r other m run.
         let mine = cells_are (fresh_of s) l history lives in
         let theirs = cells_are (fresh_of r) m other run in

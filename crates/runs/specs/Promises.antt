@@ -26,10 +26,11 @@ fresh_of s = fresh s.cells s.volume s.volume_of_gaps s.events s.gaps
 abbrev pub Lives : Start → List Turn → Life → Type 0
 Lives s history l = Ran (fresh_of s) history l
 
--- Settings: each cell has the byte that its last granted write gave it. From this it follows that two stores
--- are equal exactly when the last granted writes gave equal bytes, cell by cell.
+-- Settings: each cell has the byte that its last granted write gave it, and so between any two moments. From this it
+-- follows that two stores are equal exactly when the last granted writes gave equal bytes, cell by cell.
 pub record SettingsOf (s : Start) (history : List Turn) (l : Life) : Type 0 where
   pub each : (k : ℕ) → l.cells k ≡ last_given s.cells history k
+  pub since : (m n : Life) (between : List Turn) → Ran m between n → (k : ℕ) → n.cells k ≡ last_given m.cells between k
   pub equal :
       (r : Start) (other : List Turn) (m : Life) → Lives r other m →
       ((k : ℕ) → k < 256 → l.cells k ≡ m.cells k) ↔ ((k : ℕ) → k < 256 → last_given s.cells history k ≡ last_given r.cells other k)
