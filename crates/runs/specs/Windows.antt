@@ -54,9 +54,6 @@ WindowsBy Hears =
     Steps m call o n → (company : Company) → (o.result ≢ refused 6 company) × (o.result ≢ refused 7 company)
 
 -- Frames that are heard each alone in a line.
-abbrev pub HeardInTurn : ℕ → List Turn → List Asked → Type 0
-HeardInTurn = HeardBy HearsAlone
-
 abbrev pub Windows : Type 0
 Windows = WindowsBy HearsAlone
 

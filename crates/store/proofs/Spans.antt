@@ -1,7 +1,6 @@
 -- Laws of neighbouring cells, one cell more at a time.
 use Rattle.std.proofs.Common.{◌≡◌, ℕ, zero, suc, ◌+◌, ◌-◌, ◌<◌, ◌≤◌, Bool, true, false, List, [], ◌∷◌, ◌++◌, length, get_or, refl, sym, ap, ◌∙◌, subst, ◌⊎◌, inl, inr, ◌↔◌, ⊎_elim, arith}
 use lib.Bits.{bit_or, bit_xor, and_le_l, and_le_r, or_add_and, xor_add_and, xor_self}
-use Rattle.std.proofs.lemmas.Bool.{and_from, cond-true, le-leb, lt-ltb}
 use Rattle.std.proofs.lemmas.Bool.Decides.{nat_tests}
 use Rattle.std.specs.Range.{range_inclusive_end, range_inclusive_exhausted, range_inclusive_left, range_inclusive_len, range_inclusive_start}
 use Rattle.std.specs.declared.ops.RangeInclusive.{RangeInclusive}
@@ -43,14 +42,6 @@ pub laid_more : (cell next byte : ℕ) (later : List ℕ) (cells : ℕ → ℕ) 
     laid next later (upd cells cell byte) k ≡ laid cell (byte ∷ later) cells k
 laid_more cell next byte [] cells k h = grind (arith, nat_tests)
 laid_more cell next byte (x ∷ later) cells k h = grind (arith, nat_tests)
-
--- the bytes written are what the cells then hold
-pub laid_held : (first : ℕ) (bytes : List ℕ) (cells : ℕ → ℕ) (i : ℕ) → i < length bytes → laid first bytes cells (first + i) ≡ get_or bytes i 0
-laid_held first bytes cells i h =
-    let within = lt-ltb (first + i) (first + length bytes) (omega arith) in
-    let from = le-leb first (first + i) (omega arith) in
-    let place : first + i - first ≡ i = omega arith in
-    cond-true _ _ _ (and_from _ _ from within) ∙ ap (λ (n : ℕ). get_or bytes n 0) place
 
 -- a difference joined in stays 0 exactly where both are alike
 alike : (a x y : ℕ) → bit_or a (bit_xor x y) ≡ 0 → (a ≡ 0) × (x ≡ y)
