@@ -1,81 +1,41 @@
 -- What searches over a line answer: for a valid request, and for a beginning at the line's end.
-use Rattle.std.proofs.Common.{◌≡◌, ℕ, ◌+◌, ◌-◌, ◌<◌, ◌≤◌, Bool, true, false, List, length, get_or, drop, Some, None, Option, Decides, IfSome, IsSomeAnd, IsTrue, MatchOption, sym, refl, ap, ◌∙◌, ⊎_elim, subst, arith, length-drop}
-use denote.Ref.{Bor}
-use Rattle.std.specs.Fn.{Called, Mut}
-use Rattle.std.specs.Iterator.Runs.{AllItemsGive, CallKeepsClosure, EveryRun, IsFirstToGive, IsWindowsRun, Run, SomeRun}
-use Rattle.std.specs.List.{AllWithin, HoldsAt, IsSubsliceAt, range_with_len}
-use Rattle.std.specs.Slice.Iter.{windows_rest, windows_size, windows_steps}
-use Rattle.block.proofs.Reading.{item}
+use Rattle.std.proofs.Common.{◌≡◌, ℕ, ◌+◌, ◌-◌, ◌<◌, ◌≤◌, true, false, List, length, get_or, take, drop, Some, None, Option, Decides, MatchOption, sym, refl, ap, ◌∙◌, ⊎_elim, subst, arith, length-drop}
+use Rattle.std.specs.List.{AllWithin, HoldsAt, range_with_len}
 use Rattle.request_frame.specs.Requests.{FirstBegun, Least, Requests, Valid, begun, window}
 use Rattle.request_frame.proofs.Frame.{fields, past_end}
 use Rattle.std.proofs.lemmas.Bool.{and_left, and_right, cases_lt, false≢true, le-ltb}
 use Rattle.std.proofs.lemmas.List.{get_or-drop, get_or-take}
 use Rattle.std.proofs.lemmas.List.FromFn.{get_or-range_with_len, length-range_with_len}
 
--- a run over the windows of 18 bytes of this line
-pub windows_of : {s : _} {line : List ℕ} →
-    EveryRun (windows_steps {A = ℕ}) (λ p. 0 < windows_size p.from → IsWindowsRun p (windows_size p.from) (windows_rest p.from)) →
-    windows_size s ≡ 18 → windows_rest s ≡ line → (p : Run (windows_steps {A = ℕ})) → p.from ≡ s → IsWindowsRun p 18 line
-windows_of {s} {line} runs size rest p from =
-    let n : windows_size p.from ≡ 18 = ap windows_size from ∙ size in
-    let l : windows_rest p.from ≡ line = ap windows_rest from ∙ rest in
-    let N : ℕ → Type 0 = λ m. IsWindowsRun p m (windows_rest p.from) in
-    let L : List ℕ → Type 0 = λ bytes. IsWindowsRun p 18 bytes in
-    subst L l (subst N n (runs p p.seen (omega arith)))
+-- the part of a line that is looked at is the 18 bytes from its place on
+cut : (line : List ℕ) (at : ℕ) → take (at + 18 - at) (drop at line) ≡ window line at
+cut line at = let e : at + 18 - at ≡ 18 = omega arith in ap (λ (n : ℕ). take n (drop at line)) e
 
-module _ {F : Type 0} {g : Mut F (Bor (List ℕ) × Unit {0}) Bool} {f : F} (line : List ℕ)
-    (told : (a : Bor (List ℕ) × Unit {0}) (b : Bool) (f' : F) → Called g f a b f' → (f' ≡ f) × Decides b (Valid a.0.now))
-    (p : Run (windows_steps {A = ℕ})) (windows : IsWindowsRun p 18 line) where
-  at_place : (k : ℕ) (x : Bor (List ℕ)) → p.at k ≡ Some x → x.now ≡ window line k
-  at_place k x e =
-      let W : Option (Bor (List ℕ)) → Type 0 = λ o. IfSome o (λ y. (length y.now ≡ 18) × (k + 18 ≤ length line) × IsSubsliceAt 18 line k y.now) in
-      let w : W (Some x) = subst W e (windows.2 k) in
-      w.2.0
+module _ (line : List ℕ) where
+  abbrev pub ValidAt : ℕ → Type 0
+  ValidAt k = Valid (window line k)
 
-  keeps : CallKeepsClosure g f
-  keeps a b f' c = (told a b f' c).0
+  abbrev pub NotValidAt : ℕ → Type 0
+  NotValidAt k = Valid (window line k) → ⊥
 
-  not_valid : (k : ℕ) (x : Bor (List ℕ)) → p.at k ≡ Some x → Called g f (x, tt) false f → Valid (window line k) → ⊥
-  not_valid k x e called v = false≢true ((told (x, tt) false f called).1.1 (subst Valid (sym (at_place k x e)) v))
+pub valid_there : (line : List ℕ) (k : ℕ) → Decides true (Valid (take (k + 18 - k) (drop k line))) → ValidAt line k
+valid_there line k d = subst Valid (cut line k) (d.0 refl)
 
-  none_valid : p.whole ≡ true → AllItemsGive p g f false → (k : ℕ) → Valid (window line k) → ⊥
-  none_valid whole gives k v =
-      let count = windows.1 whole in
-      let G : Option (Bor (List ℕ)) → Type 0 = λ o. IfSome o (λ x. Called g f (x, tt) false f) in
-      ⊎_elim
-      (λ h.
-      let i = item p k h in
-      let called : G (Some i.0) = subst G i.1 (gives keeps k) in
-      not_valid k i.0 i.1 called v)
-      (λ h. past_end line k (omega arith) v) (cases_lt k p.len)
-
-  first_valid : (k : ℕ) → p.len ≡ k + 1 → IsFirstToGive p g f true false k →
-      Valid (window line k) × ((j : ℕ) → j < k → Valid (window line j) → ⊥)
-  first_valid k long gives =
-      let i = item p k (omega arith) in
-      let G : Option (Bor (List ℕ)) → Type 0 = λ o. IsSomeAnd o (λ x. Called g f (x, tt) true f) in
-      let called : G (Some i.0) = subst G i.1 (gives keeps).0 in (
-        subst Valid (at_place k i.0 i.1) ((told (i.0, tt) true f called).1.0 refl),
-        λ j h.
-            let i' = item p j (omega arith) in
-            let G' : Option (Bor (List ℕ)) → Type 0 = λ o. IsSomeAnd o (λ x. Called g f (x, tt) false f) in
-            let called' : G' (Some i'.0) = subst G' i'.1 ((gives keeps).1 j h) in
-            not_valid j i'.0 i'.1 called',
-      )
+pub none_there : (line : List ℕ) (k : ℕ) → Decides false (Valid (take (k + 18 - k) (drop k line))) → NotValidAt line k
+none_there line k d v = false≢true (d.1 (subst Valid (sym (cut line k)) v))
 
 -- the place that a search for a valid request answers
 abbrev pub LeastPlace : List ℕ → Option ℕ → Type 0
 LeastPlace line r =
     MatchOption r ((k : ℕ) → Valid (window line k) → ⊥) (λ k. Valid (window line k) × ((j : ℕ) → j < k → Valid (window line j) → ⊥))
 
-pub found : {F : Type 0} {g : Mut F (Bor (List ℕ) × Unit {0}) Bool} {f : F} (line : List ℕ) {s : _} (r : Option ℕ) →
-    SomeRun (windows_steps {A = ℕ}) s
-    (λ p. MatchOption r (IsTrue p.whole × AllItemsGive p g f false) (λ k. (p.len ≡ k + 1) × IsFirstToGive p g f true false k)) →
-    ((p : Run (windows_steps {A = ℕ})) → p.from ≡ s → IsWindowsRun p 18 line) →
-    ((a : Bor (List ℕ) × Unit {0}) (b : Bool) (f' : F) → Called g f a b f' → (f' ≡ f) × Decides b (Valid a.0.now)) →
+-- what a search over the places answers
+pub found : (line : List ℕ) (m : ℕ) (r : Option ℕ) → m ≡ length line - 17 →
+    MatchOption r ((k : ℕ) → 0 ≤ k → k < m → NotValidAt line k)
+    (λ i. (0 ≤ i) × (i < m) × ValidAt line i × ((k : ℕ) → 0 ≤ k → k < i → NotValidAt line k)) →
     LeastPlace line r
-found line None (p, from, ends) windows told = none_valid line told p (windows p from) ends.0 ends.1
-found line (Some k) (p, from, ends) windows told = first_valid line told p (windows p from) k ends.0 ends.1
+found line m None count none = λ k. ⊎_elim (none k (omega arith)) (λ h. past_end line k (omega arith)) (cases_lt k m)
+found line m (Some place) count (from, within, here, before) = (here, λ k. before k (omega arith))
 
 -- the command stands six bytes behind the place
 pub with_command : (line : List ℕ) (k : ℕ) → LeastPlace line (Some k) → Least line (Some (k, get_or line (k + 6) 0))

@@ -65,7 +65,7 @@ pub fn search(line: &[u8]) -> Option<(usize, u8)>
     ensures least { Least line.now result }
     ensures within { IfSome result (λ found. found.0 + 18 ≤ length line.now) }
 {
-    let at = line.windows(REQUEST_BYTES).position(is_request)?;
+    let at = (0..line.len().saturating_sub(17)).find(|at| is_request(&line[*at..*at + 18]))?;
     Some((at, line[at + 6]))
 }
 
