@@ -27,6 +27,7 @@ fn newest(strip: &[Entry], cell: u8) -> Option<u8>
     strip
         .iter()
         .rev()
+        .copied()
         .find(|entry| entry.cell == cell)
         .map(|entry| entry.byte)
 }
@@ -49,7 +50,7 @@ impl Store for Appending {
     ghost cells = { λ s. over s.base s.strip.items };
 
     fn read(&self, cell: u8) -> u8 {
-        newest(&self.strip, cell).unwrap_or(self.base[cell as usize])
+        newest(&self.strip, cell).unwrap_or_else(|| self.base[cell as usize])
     }
 
     #[tactic(auto, using(crate::proofs::Writes::over_written))]

@@ -23,8 +23,8 @@ pub fn write_cells<S: Store>(store: &mut S, first: u8, bytes: &[u8])
     ensures written { (k : ℕ) → S.cells store.new k ≡ laid first bytes.now (S.cells store.old) k }
     ensures held { Hold (S.cells store.new) first bytes.now }
 {
-    for (cell, byte) in (first..=255).zip(bytes) {
-        store.write(cell, *byte);
+    for (cell, byte) in (usize::from(first)..).zip(bytes) {
+        store.write(cell as u8, *byte);
     }
 }
 
