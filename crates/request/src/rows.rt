@@ -163,6 +163,8 @@ impl<'a> Request<'a> {
 
 impl<'a> Row<'a> {
     // The request with its parameters in their ranges, at a converter with that address, if they are.
+    // Inlined always, with its test: else the request is copied into each answer.
+    #[inline(always)]
     pub fn checked(&self, address: &[u8; 2]) -> Option<Checked<'a>>
         ensures test { is_some result ≡ checked address.now (meant self.now.request) }
         ensures same { IfSome result (λ c. c.row ≡ self.now) }
@@ -176,6 +178,7 @@ impl<'a> Row<'a> {
     }
 
     // Whether its parameters are in their ranges, at a converter with that address.
+    #[inline(always)]
     fn is_checked(&self, address: &[u8; 2]) -> bool
         ensures { result ≡ checked address.now (meant self.now.request) }
     {
