@@ -116,7 +116,7 @@ fn is_right<S: Store>(store: &S, row: &Row) -> bool
 }
 
 // The least refusal that applies to a request, if one does.
-// Inlined always, as what it calls: else the request is copied at each answer on its way.
+// Inlined always, as `Row::checked` is: else the request is copied at each answer on its way.
 #[inline(always)]
 fn decided<'a, S: Store>(
     access: &Access,
